@@ -1,0 +1,7 @@
+// The words of the trade: prices, sizes, times, orders, rows, refusals and the price grid.
+pub mod checks;
+pub mod close;
+pub mod order;
+pub mod refusal;
+pub mod row;
+pub mod units;

@@ -1,0 +1,4 @@
+pub mod Bounds
+pub mod Counts
+pub mod InOrder
+pub mod Proportion
