@@ -1,0 +1,12 @@
+pub mod Words
+pub mod Prices
+pub mod Volume
+pub mod Allocation
+pub mod Opening
+pub mod Series
+pub mod Calls
+pub mod Runs
+pub mod Ledger
+pub mod Law
+pub mod Books
+pub mod Wrong
