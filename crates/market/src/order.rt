@@ -1,4 +1,6 @@
 // What an order says of itself.
+ghost use mathlib.Core.Path.{_≡_};
+ghost use Rattle.market.specs.Words.{other, same-side, market-maker, in-book, auctioned, competing, price-of};
 use crate::units::Cents;
 use crate::units::CentsDebug;
 use crate::units::CentsPartialEq;
@@ -54,4 +56,87 @@ pub struct Order {
     // when its exposure ends, if it is exposed
     pub exposed: Option<Millis>,
     pub role: Role,
+}
+
+impl Side {
+    // The side that trades against this one.
+    pub fn other(self) -> Side
+        ensures { λ r. ⌜ r ≡ other self ⌝ }
+    {
+        match self {
+            Side::Buy => Side::Sell,
+            Side::Sell => Side::Buy,
+        }
+    }
+
+    // Whether both are the same side.
+    pub fn is(self, side: Side) -> bool
+        ensures { λ r. ⌜ r ≡ same-side self side ⌝ }
+    {
+        match (self, side) {
+            (Side::Buy, Side::Buy) => true,
+            (Side::Buy, Side::Sell) => false,
+            (Side::Sell, Side::Buy) => false,
+            (Side::Sell, Side::Sell) => true,
+        }
+    }
+}
+
+impl OrderKind {
+    // The price of a limit, and 0 without one.
+    pub fn price(self) -> Cents
+        ensures { λ r. ⌜ r .value ≡ price-of self ⌝ }
+    {
+        match self {
+            OrderKind::Limit(price) => price,
+            OrderKind::MarketOnOpening => Cents { value: 0 },
+        }
+    }
+}
+
+impl Account {
+    pub fn is_market_maker(self) -> bool
+        ensures { λ r. ⌜ r ≡ market-maker self ⌝ }
+    {
+        match self {
+            Account::Customer => false,
+            Account::Linkage => false,
+            Account::MarketMaker => true,
+        }
+    }
+}
+
+impl Role {
+    pub fn is_in_book(self) -> bool
+        ensures { λ r. ⌜ r ≡ in-book self ⌝ }
+    {
+        match self {
+            Role::Book => true,
+            Role::Auctioned => false,
+            Role::Starter => false,
+            Role::Competing => false,
+        }
+    }
+
+    pub fn is_auctioned(self) -> bool
+        ensures { λ r. ⌜ r ≡ auctioned self ⌝ }
+    {
+        match self {
+            Role::Book => false,
+            Role::Auctioned => true,
+            Role::Starter => false,
+            Role::Competing => false,
+        }
+    }
+
+    pub fn is_competing(self) -> bool
+        ensures { λ r. ⌜ r ≡ competing self ⌝ }
+    {
+        match self {
+            Role::Book => false,
+            Role::Auctioned => false,
+            Role::Starter => false,
+            Role::Competing => true,
+        }
+    }
 }

@@ -1,4 +1,7 @@
 // The rows that a call writes, one for each movement of contracts.
+ghost use mathlib.Core.Path.{_≡_};
+ghost use Rattle.market.specs.Words.{trade, departure};
+use crate::order::Side;
 use crate::units::Cents;
 use crate::units::CentsDebug;
 use crate::units::CentsPartialEq;
@@ -26,4 +29,36 @@ pub struct Row {
     pub second: u16,
     pub price: Cents,
     pub contracts: Contracts,
+}
+
+impl Row {
+    // A trade of a taker on a side. It names the buyer first.
+    pub fn trade(side: Side, taker: u16, maker: u16, price: Cents, contracts: Contracts) -> Row
+        ensures { λ r. ⌜ r ≡ trade side taker maker (price .value) (contracts .count) ⌝ }
+    {
+        let (first, second) = match side {
+            Side::Buy => (taker, maker),
+            Side::Sell => (maker, taker),
+        };
+        Row {
+            kind: RowKind::Trade,
+            first,
+            second,
+            price,
+            contracts,
+        }
+    }
+
+    // Contracts of an order that leave without a trade.
+    pub fn departure(kind: RowKind, number: u16, price: Cents, contracts: Contracts) -> Row
+        ensures { λ r. ⌜ r ≡ departure kind number (price .value) (contracts .count) ⌝ }
+    {
+        Row {
+            kind,
+            first: number,
+            second: 0,
+            price,
+            contracts,
+        }
+    }
 }

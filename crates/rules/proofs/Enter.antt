@@ -28,7 +28,7 @@ use Rattle.rules.specs.Ledger.{Entry, Ledger, named, stands-at}
 use Rattle.rules.specs.Opening.{grid}
 use Rattle.rules.specs.Prices.{away-best, bound, reaches}
 use Rattle.rules.specs.Series.{State, book-against, left-under}
-use Rattle.rules.specs.Words.{auctioned, in-book, limit-at, market-maker, or-else, other, same-side, standing}
+use Rattle.market.specs.Words.{auctioned, in-book, limit-at, market-maker, or-else, other, same-side, standing}
 use Rattle.sharing.specs.Sharing.{Sharing}
 use Rattle.rules.proofs.Tally.{sum-none, sum-under, all-both, all-of}
 use Rattle.rules.proofs.Sound.{Agrees, Roled, Sound, Good, Fine, other-auction, Facts, Lot, reached}

@@ -40,7 +40,7 @@ use Rattle.rules.specs.Prices.{away-best, bound, distance, reaches, within}
 use Rattle.rules.specs.Runs.{after}
 use Rattle.rules.specs.Series.{State, book-against, left-under}
 use Rattle.rules.specs.Volume.{matched-volume, of-order, surplus, volume, willing, willing-at}
-use Rattle.rules.specs.Words.{departure, in-book, is-trade, limit-at, or-else, other, price-of, same-side, standing, trade}
+use Rattle.market.specs.Words.{departure, in-book, is-trade, limit-at, or-else, other, price-of, same-side, standing, trade}
 use Rattle.sharing.specs.Sharing.{Sharing}
 use Rattle.std.specs.Options.{isSome}
 use Rattle.rules.proofs.Tally.{all-both, all-of}

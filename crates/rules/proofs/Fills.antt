@@ -25,7 +25,7 @@ use Rattle.market.specs.declared.order.Side.the-variants.{Buy, Sell}
 use Rattle.rules.specs.Allocation.{fill, level, mark-among, next-place, place-of, priority, priority-at, share-at, volume-ahead}
 use Rattle.rules.specs.Law.{Rising, at-least-as-good}
 use Rattle.rules.specs.Opening.{top}
-use Rattle.rules.specs.Words.{other, price-of, standing}
+use Rattle.market.specs.Words.{other, price-of, standing}
 use Rattle.sharing.specs.Sharing.{Lawful, Shares, Sharing}
 use Rattle.rules.proofs.Tally.{sum-kept, sum-map, sum-same, sum-two, sum-none, sum-under, all-both, all-of}
 use Rattle.rules.proofs.Matching.{lot-of, has-to-kept, kept-all, rising-above, all-to-kept}

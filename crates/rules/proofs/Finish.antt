@@ -28,7 +28,7 @@ use Rattle.rules.specs.Calls.{Effect, Ticket, checks, effect, effect-of, finis
 use Rattle.rules.specs.Ledger.{Ledger, named}
 use Rattle.rules.specs.Runs.{after}
 use Rattle.rules.specs.Series.{State, left-under}
-use Rattle.rules.specs.Words.{auctioned, departure, in-book, other, same-side, standing}
+use Rattle.market.specs.Words.{auctioned, departure, in-book, other, same-side, standing}
 use Rattle.sharing.specs.Sharing.{Sharing}
 use Rattle.std.specs.Options.{isSome}
 use Rattle.rules.proofs.Tally.{sum-kept, sum-two, sum-under, all-of}

@@ -15,7 +15,7 @@ use Rattle.rules.specs.Allocation.{live}
 use Rattle.rules.specs.Law.{Rising}
 use Rattle.rules.specs.Ledger.{Entry, named, names}
 use Rattle.rules.specs.Series.{left-under}
-use Rattle.rules.specs.Words.{standing}
+use Rattle.market.specs.Words.{standing}
 use Rattle.rules.proofs.Tally.{sum-kept, sum-map, sum-two, sum-under, all-both, all-of}
 use Rattle.rules.proofs.Sound.{Lot, Matched, none, spent, stands-as}
 

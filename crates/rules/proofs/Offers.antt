@@ -33,7 +33,7 @@ use Rattle.rules.specs.Calls.{Effect, Ticket, at-time, better, bettered, check
 use Rattle.rules.specs.Ledger.{Entry, Ledger, customer-side, customer-size, entries, named}
 use Rattle.rules.specs.Runs.{run}
 use Rattle.rules.specs.Series.{State, competing-order, found, fresh, left-under}
-use Rattle.rules.specs.Words.{auctioned, competing, departure, limit-at, other, standing}
+use Rattle.market.specs.Words.{auctioned, competing, departure, limit-at, other, standing}
 use Rattle.sharing.specs.Sharing.{Sharing}
 use Rattle.std.specs.Options.{isSome}
 use Rattle.rules.proofs.Tally.{all-both, all-of}

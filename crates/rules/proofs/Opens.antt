@@ -31,7 +31,7 @@ use Rattle.rules.specs.Ledger.{Entry, Ledger, first-of, named}
 use Rattle.rules.specs.Opening.{opened-orders, opening-fill, opening-rows, opening-trade, top, with-limit}
 use Rattle.rules.specs.Series.{State, left-under, on-opening}
 use Rattle.rules.specs.Volume.{matched-volume, of-order}
-use Rattle.rules.specs.Words.{Adds-up, in-book, limit-of, or-else, price-of, standing}
+use Rattle.market.specs.Words.{Adds-up, in-book, limit-of, or-else, price-of, standing}
 use Rattle.sharing.specs.Sharing.{Sharing}
 use Rattle.std.specs.Options.{isSome}
 use Rattle.rules.proofs.Tally.{sum-map, all-both}

@@ -21,7 +21,7 @@ use Rattle.rules.specs.Law.{Rising}
 use Rattle.rules.specs.Ledger.{contracts-in, named, names}
 use Rattle.rules.specs.Opening.{filled, intervals, opening-fill, opening-rows, opening-trade, overlap, paired}
 use Rattle.rules.specs.Volume.{matched-volume, of-order, volume, willing-at}
-use Rattle.rules.specs.Words.{limit-of, same-side, standing, trade}
+use Rattle.market.specs.Words.{limit-of, same-side, standing, trade}
 use Rattle.sharing.specs.Sharing.{Lawful, Sharing}
 use Rattle.rules.proofs.Tally.{sum-kept, sum-map, sum-same, sum-two, sum-none, all-both, all-of}
 use Rattle.rules.proofs.Matching.{lot-of, rising-above, has-from-kept}

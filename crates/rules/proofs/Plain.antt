@@ -33,7 +33,7 @@ use Rattle.rules.specs.Calls.{Call, away, checks, effect, new-order, opened, p
 use Rattle.rules.specs.Ledger.{Entry, Ledger, customer-after, empty-ledger, entries, first-of, named, quotes-after}
 use Rattle.rules.specs.Runs.{opens-at}
 use Rattle.rules.specs.Series.{State, bad-quote, book-order, found, fresh, left-under, off-grid}
-use Rattle.rules.specs.Words.{departure, in-book, limit-of, standing}
+use Rattle.market.specs.Words.{departure, in-book, limit-of, standing}
 use Rattle.sharing.specs.Sharing.{Sharing}
 use Rattle.rules.proofs.Tally.{all-of}
 use Rattle.rules.proofs.Sound.{none, stands-as, Roled, Running, Sound, Good, Fine, Priced, Spanned, other-auction}

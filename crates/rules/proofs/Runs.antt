@@ -15,7 +15,7 @@ use Rattle.rules.specs.Law.{Best-terms, Conserved, Fair, Fair-event, No-order-
 use Rattle.rules.specs.Ledger.{Entry, Ledger, customer-after, empty-ledger, entries, first-of, ledger, named, post, posted, quotes-after}
 use Rattle.rules.specs.Runs.{Day, Event, event, event-by, lent, opens-at, run, run-from, state-by, step, written}
 use Rattle.rules.specs.Series.{State, fresh, left-under}
-use Rattle.rules.specs.Words.{Adds-up}
+use Rattle.market.specs.Words.{Adds-up}
 use Rattle.sharing.specs.Sharing.{Lawful, Sharing}
 use Rattle.rules.proofs.Sound.{Good, Sound, Facts}
 use Rattle.rules.proofs.Plain.{posting, fresh-sound, away-sound, place-sound, withdraw-sound}

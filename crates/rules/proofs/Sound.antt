@@ -26,7 +26,7 @@ use Rattle.rules.specs.Opening.{opening-rows, opening-trade, top}
 use Rattle.rules.specs.Prices.{distance, within}
 use Rattle.rules.specs.Series.{State, left-under}
 use Rattle.rules.specs.Volume.{matched-volume, of-order, surplus, willing}
-use Rattle.rules.specs.Words.{Adds-up, auctioned, competing, in-book, is-trade, limit-of, or-else, other, price-of, standing}
+use Rattle.market.specs.Words.{Adds-up, auctioned, competing, in-book, is-trade, limit-of, or-else, other, price-of, standing}
 use Rattle.sharing.specs.Sharing.{Sharing}
 
 -- an order that is willing at a price, one within a bound

@@ -24,7 +24,7 @@ use Rattle.rules.specs.Calls.{without}
 use Rattle.rules.specs.Law.{Rising}
 use Rattle.rules.specs.Ledger.{Entry, Ledger, named, names}
 use Rattle.rules.specs.Series.{State, found, left-under}
-use Rattle.rules.specs.Words.{departure, in-book, standing}
+use Rattle.market.specs.Words.{departure, in-book, standing}
 use Rattle.std.specs.Options.{isSome}
 use Rattle.rules.proofs.Tally.{sum-kept, sum-map, sum-same, sum-two, all-both, all-of}
 use Rattle.rules.proofs.Sound.{Matched, Roled, Running, Sound}

@@ -36,7 +36,7 @@ use Rattle.market.specs.declared.units.Millis.{Millis}
 use Rattle.rules.specs.Calls.{at-time, checks, clock, effect, exposure-row, new-order, opened, start, without}
 use Rattle.rules.specs.Ledger.{Entry, Ledger, named}
 use Rattle.rules.specs.Series.{State, due, fresh, left-under}
-use Rattle.rules.specs.Words.{auctioned, competing, departure, in-book, limit-at, or-else, other, price-of, standing}
+use Rattle.market.specs.Words.{auctioned, competing, departure, in-book, limit-at, or-else, other, price-of, standing}
 use Rattle.sharing.specs.Sharing.{Sharing}
 use Rattle.std.specs.Options.{isSome}
 use Rattle.rules.proofs.Tally.{sum-none, all-both}

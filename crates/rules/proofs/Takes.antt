@@ -16,7 +16,7 @@ use Rattle.market.specs.declared.row.Row.{Row}
 use Rattle.rules.specs.Allocation.{by-priority, insert, priority, taker-rows}
 use Rattle.rules.specs.Law.{taker}
 use Rattle.rules.specs.Ledger.{contracts-in, named, names, total-of}
-use Rattle.rules.specs.Words.{price-of, trade}
+use Rattle.market.specs.Words.{price-of, trade}
 use Rattle.rules.proofs.Tally.{sum-kept, sum-same, all-of}
 use Rattle.rules.proofs.Sound.{Takes}
 

@@ -81,7 +81,7 @@ lex-most f rest k = record { one-way = one; chain = two }
     two : (x y z : ℕ) → (ltb (f y) (f x) || (eqb (f y) (f x) && rest x y)) ≡ false → (ltb (f z) (f y) || (eqb (f z) (f y) && rest y z)) ≡ false → (ltb (f z) (f x) || (eqb (f z) (f x) && rest x z)) ≡ false
     two x y z a b = join x y z (lex-false (f y) (f x) (rest x y) a) (lex-false (f z) (f y) (rest y z) b)
 
-opens-ranks : (os : List Order) (close : ℕ) → Ranks (opens-better os close)
+pub opens-ranks : (os : List Order) (close : ℕ) → Ranks (opens-better os close)
 opens-ranks os close = lex-most (matched-volume of-order os) _ (lex-least (surplus of-order os) _ (lex-least (λ q. distance q close) (λ q p. ltb q p) (ranks-by-number (λ q. q))))
 
 -- ---- the grid
@@ -123,10 +123,10 @@ best-all beats P a (x ∷ xs) p h = best-all beats P (cond (beats x a) x a) xs (
     go false = p
 
 module _ (os : List Order) (close : ℕ) where
-  best-on-grid : on-grid (best-price os close) ≡ true
+  pub best-on-grid : on-grid (best-price os close) ≡ true
   best-on-grid = best-all (opens-better os close) (λ q. on-grid q ≡ true) 5 grid refl grid-all
 
-  unbeaten : (q : ℕ) → on-grid q ≡ true → opens-better os close q (best-price os close) ≡ false
+  pub unbeaten : (q : ℕ) → on-grid q ≡ true → opens-better os close q (best-price os close) ≡ false
   unbeaten q e =
       let f = first-best-from-best-of (opens-ranks os close) 5 grid in
       let h = has-cons 5 grid q (grid-has q e) in
@@ -193,7 +193,7 @@ lex-both u v r t a b = go (lex-false u v r a) (lex-false v u t b)
     go (inr p) (inl q) = absurd (omega (arith, p .0))
     go (inr p) (inr q) = (p .0, p .1, q .1)
 
-same-best : (os : List Order) (close p q : ℕ) → opens-better os close q p ≡ false → opens-better os close p q ≡ false → p ≡ q
+pub same-best : (os : List Order) (close p q : ℕ) → opens-better os close q p ≡ false → opens-better os close p q ≡ false → p ≡ q
 same-best os close p q a b =
     let m = lex-both (matched-volume of-order os p) (matched-volume of-order os q) _ _ a b in
     let u = lex-both (surplus of-order os q) (surplus of-order os p) _ _ (m .1) (m .2) in

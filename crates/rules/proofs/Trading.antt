@@ -29,7 +29,7 @@ use Rattle.rules.specs.Law.{maker}
 use Rattle.rules.specs.Ledger.{Entry, named, t-rows}
 use Rattle.rules.specs.Prices.{away-best, best-among, better-price, cents, quoted}
 use Rattle.rules.specs.Series.{left-under}
-use Rattle.rules.specs.Words.{Adds-up, departure, limit-at, market-maker, or-else, price-of, standing}
+use Rattle.market.specs.Words.{Adds-up, departure, limit-at, market-maker, or-else, price-of, standing}
 use Rattle.rules.proofs.Tally.{sum-kept, sum-map, sum-same, all-both, all-of}
 use Rattle.rules.proofs.Sound.{Matched, none, spent, stands-as, Agrees, Roled, Good, Fine, Priced, Spanned, reached}
 use Rattle.rules.proofs.Matching.{left-here, left-past, matched-kept, count-kept, moved-accounts, matched-map}

@@ -14,7 +14,7 @@ use Rattle.market.specs.declared.order.Side.{Side}
 use Rattle.market.specs.declared.order.Side.the-variants.{Buy, Sell}
 use Rattle.market.specs.declared.row.Row.{Row}
 use Rattle.sharing.specs.Sharing.{Sharing}
-use Rattle.rules.specs.Words.{standing, price-of, trade}
+use Rattle.market.specs.Words.{standing, price-of, trade}
 
 -- The lower priority trades first: Market-on-Opening, then the best price. So both sides have one order.
 abbrev pub priority-at : Side → OrderKind → ℕ

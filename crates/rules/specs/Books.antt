@@ -21,7 +21,7 @@ use Rattle.market.specs.declared.units.Millis.{Millis}
 use Rattle.sharing.specs.ProRata.{pro-rata}
 use Rattle.sharing.specs.Sharing.{Sharing}
 use Rattle.sharing.specs.Time.{time-with-guarantee}
-use Rattle.rules.specs.Words.{limit-at, trade, departure}
+use Rattle.market.specs.Words.{limit-at, trade, departure}
 use Rattle.rules.specs.Volume.{surplus, of-order}
 use Rattle.rules.specs.Calls.{Ticket, Call, place, away, opening, enter, clock, start, improve, finish}
 use Rattle.rules.specs.Runs.{Answer, refused, accepted, event, run}

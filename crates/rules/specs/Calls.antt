@@ -24,7 +24,7 @@ use Rattle.market.specs.declared.units.Cents.{Cents}
 use Rattle.market.specs.declared.units.Contracts.{Contracts}
 use Rattle.market.specs.declared.units.Millis.{Millis}
 use Rattle.sharing.specs.Sharing.{Sharing}
-use Rattle.rules.specs.Words.{same-side, other, market-maker, in-book, standing, limit-at, price-of, or-else, departure}
+use Rattle.market.specs.Words.{same-side, other, market-maker, in-book, standing, limit-at, price-of, or-else, departure}
 use Rattle.rules.specs.Prices.{away-best, bound, reaches, within}
 use Rattle.rules.specs.Allocation.{fill, taker-rows, after-trade, live}
 use Rattle.rules.specs.Opening.{top, opening-rows, opened-orders}

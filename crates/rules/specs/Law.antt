@@ -16,7 +16,7 @@ use Rattle.market.specs.declared.row.Row.{Row}
 use Rattle.sharing.specs.ProRata.{pro-rata}
 use Rattle.sharing.specs.Sharing.{Sharing, Lawful}
 use Rattle.sharing.specs.Time.{time-with-guarantee}
-use Rattle.rules.specs.Words.{other, same-side, Adds-up}
+use Rattle.market.specs.Words.{other, same-side, Adds-up}
 use Rattle.rules.specs.Prices.{far-off, away-best, bound, within}
 use Rattle.rules.specs.Volume.{willing, matched-volume, surplus}
 use Rattle.rules.specs.Series.{State}

@@ -12,7 +12,7 @@ use Rattle.market.specs.declared.order.Side.{Side}
 use Rattle.market.specs.declared.order.Side.the-variants.{Buy, Sell}
 use Rattle.market.specs.declared.quote.Quote.{Quote}
 use Rattle.market.specs.declared.row.Row.{Row}
-use Rattle.rules.specs.Words.{other, market-maker, limit-of, or-else, is-trade}
+use Rattle.market.specs.Words.{other, market-maker, limit-of, or-else, is-trade}
 use Rattle.rules.specs.Prices.{away-best, reaches}
 use Rattle.rules.specs.Volume.{Interest}
 use Rattle.rules.specs.Series.{no-quotes}

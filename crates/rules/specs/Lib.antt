@@ -1,4 +1,3 @@
-pub mod Words
 pub mod Prices
 pub mod Volume
 pub mod Allocation

@@ -15,7 +15,7 @@ use Rattle.market.specs.declared.order.Side.{Side}
 use Rattle.market.specs.declared.order.Side.the-variants.{Buy, Sell}
 use Rattle.market.specs.declared.row.Row.{Row}
 use Rattle.sharing.specs.Sharing.{Sharing}
-use Rattle.rules.specs.Words.{standing, trade, limit-at}
+use Rattle.market.specs.Words.{standing, trade, limit-at}
 use Rattle.rules.specs.Prices.{far-off}
 use Rattle.rules.specs.Volume.{willing, matched-volume, surplus, of-order}
 use Rattle.rules.specs.Allocation.{fill, by-priority, after-trade, live}

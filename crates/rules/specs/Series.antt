@@ -15,7 +15,7 @@ use Rattle.market.specs.declared.order.Side.{Side}
 use Rattle.market.specs.declared.quote.Quote.{Quote}
 use Rattle.market.specs.declared.units.Cents.{Cents}
 use Rattle.market.specs.declared.units.Millis.{Millis}
-use Rattle.rules.specs.Words.{same-side, other, price-of, in-book, competing, auctioned, standing}
+use Rattle.market.specs.Words.{same-side, other, price-of, in-book, competing, auctioned, standing}
 use Rattle.rules.specs.Prices.{better-price, best-among, away-best, better-than, out-of-range}
 
 -- The number, the close, whether it has opened, the last accepted time, the next order number, the eight away quotes,

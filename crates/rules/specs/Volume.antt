@@ -9,7 +9,7 @@ use Rattle.std.specs.shelf.Lists.{sumBy, kept-by}
 use Rattle.market.specs.declared.order.Order.{Order}
 use Rattle.market.specs.declared.order.Side.{Side}
 use Rattle.market.specs.declared.order.Side.the-variants.{Buy, Sell}
-use Rattle.rules.specs.Words.{same-side, limit-of, standing}
+use Rattle.market.specs.Words.{same-side, limit-of, standing}
 use Rattle.rules.specs.Prices.{distance}
 
 -- what an order would trade at an opening; Market-on-Opening has no limit

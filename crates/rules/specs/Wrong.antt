@@ -9,7 +9,7 @@ use Rattle.market.specs.declared.order.Side.the-variants.{Buy, Sell}
 use Rattle.market.specs.declared.row.Row.{Row}
 use Rattle.market.specs.declared.row.RowKind.the-variants.{Withdrawn}
 use Rattle.sharing.specs.Time.{time-with-guarantee}
-use Rattle.rules.specs.Words.{limit-at, trade, departure}
+use Rattle.market.specs.Words.{limit-at, trade, departure}
 use Rattle.rules.specs.Series.{fresh}
 use Rattle.rules.specs.Calls.{Ticket, Call, opening, enter, start, improve, finish}
 use Rattle.rules.specs.Runs.{accepted, Event, nothing, Day, run}

@@ -1,5 +1,5 @@
 -- The bounds of a rule's input, by the test and by places.
-use mathlib.Core.Bool.{Bool, true, false, _&&_}
+use mathlib.Core.Bool.{Bool, true, false, not, _&&_}
 use mathlib.Core.List.{List, [], _∷_}
 use mathlib.Core.Path.{_≡_, refl, _∙_}
 use Prim.Native.Nat.{ℕ, zero, suc, _≤_}
@@ -7,14 +7,18 @@ use native.Mathlib.Omega.{arith}
 use lib.Dec.{leb, eqb}
 use lib.ListN.{length, getD}
 use Rattle.std.specs.shelf.Lawful.{all-pass}
-use Rattle.std.proofs.shelf.Tests.{leb-true, le-leb, eqb-true, not-false, and-parts, and-from}
+use Rattle.std.proofs.shelf.Tests.{leb-true, le-leb, eqb-true, eq-eqb, not-false, not-from-true, both-ways, and-parts, and-from}
 use Rattle.std.specs.declared.option.Option.the-variants.{None}
-use Rattle.market.specs.Refusals.{first-hit}
-use Rattle.market.proofs.Tables.{clear}
+use Rattle.std.specs.declared.option.Option.{Option}
+use Rattle.std.specs.declared.result.Result.{Result}
+use Rattle.std.specs.declared.result.Result.the-variants.{Ok, Err}
+use Rattle.market.specs.declared.refusal.Refusal.{Refusal}
+use Rattle.market.specs.Refusals.{first-hit, refusal-number}
+use Rattle.market.proofs.Tables.{clear, hit}
 use Rattle.market.specs.declared.units.Contracts.{Contracts}
-use Rattle.sharing.specs.Asked.{bounds-checks, counts}
+use Rattle.sharing.specs.Asked.{Answered, bounds-checks, counts}
 use Rattle.sharing.proofs.Counts.{length-counts}
-use Rattle.sharing.specs.Sharing.{in-bounds}
+use Rattle.sharing.specs.Sharing.{Sharing, in-bounds}
 
 -- no claim is over the largest, and past the end of the list there is 0
 pub small-at : (cs : List ℕ) → all-pass (λ c. leb c 9999) cs ≡ true → (k : ℕ) → getD cs k 0 ≤ 9999
@@ -69,3 +73,13 @@ pub places-fit :
     (claims : List Contracts) (amount guarantee places : ℕ) → None ≡ first-hit (bounds-checks (counts claims) amount guarantee places) →
     places ≡ length claims
 places-fit claims amount guarantee places h = accepted (counts claims) amount guarantee places h .1 ∙ length-counts claims
+
+-- a rule that is asked within the bounds, with one place for each share, answers by its shares
+pub asked :
+    (rule : Sharing) (claims : List ℕ) (amount : ℕ) (mark : Option ℕ) (guarantee : ℕ) (before after : List Contracts) (r : Result (Unit {0}) Refusal) →
+    Answered rule claims amount mark guarantee before after r → Bounded claims amount guarantee → length before ≡ length claims →
+    counts after ≡ rule claims amount mark guarantee
+asked rule claims amount mark guarantee before after (Ok u) a b e = a .shares-are
+asked rule claims amount mark guarantee before after (Err x) a b e =
+    let fits = in-bounds claims amount guarantee && eqb (length before) (length claims) in
+    absurd (both-ways (not fits) (not-from-true fits (and-from _ _ (in-bounds-from claims amount guarantee b) (eq-eqb (length before) (length claims) e))) (hit 7 (not fits) (refusal-number x) (a .answer-is)))
