@@ -8,7 +8,7 @@ use Rattle.std.proofs.lemmas.List.Sums.{length-filter, sum_by-append, count_by-l
 use Rattle.std.proofs.lemmas.Bool.{cond-true, cond-false}
 use Rattle.market.specs.declared.order.Order.{Order}
 use Rattle.market.specs.Words.{standing}
-use Rattle.book.specs.Blank.{no_order}
+use Rattle.book.specs.Places.{no_order}
 
 -- a loop that copies what passes a test
 pub record Picking (p : Order → Bool) (os out : List Order) (count i : ℕ) : Type 0 where

@@ -1,6 +1,12 @@
-pub mod Blank
 pub mod Filters
+pub mod Ranking
+pub mod Places
+pub mod Pairing
 pub mod Records
 pub mod Orders
-pub mod Changes
-pub mod Departures
+pub mod Rows
+pub mod Settling
+pub mod Taking
+pub mod Candidates
+pub mod Rungs
+pub mod Search

@@ -1,7 +1,12 @@
-// The order book: the table of order records, and what is asked of it.
-pub mod departures;
-pub mod prices;
-mod room;
+// The order book under the calls of a series.
+pub mod allocation;
+mod ladder;
+pub mod opening_price;
+pub mod pairing;
+pub mod priority;
+pub mod room;
+pub mod rows;
 pub mod select;
-mod settle;
+pub mod settle;
 pub mod table;
+pub mod take;

@@ -1,9 +1,10 @@
-// Room for the records of a table.
+// Room for the records of one series.
+use crate::priority::Ranked;
 use market::order::{Account, Order, OrderKind, Role, Side};
 use market::units::{Cents, Contracts};
 
 // A record that no order uses.
-pub(crate) const BLANK: Order = Order {
+pub const BLANK: Order = Order {
     number: 0,
     member: 0,
     side: Side::Buy,
@@ -17,7 +18,18 @@ pub(crate) const BLANK: Order = Order {
     role: Role::Book,
 };
 
-// Room for as many orders as a table holds. What it has at first plays no part.
-pub(crate) fn order_room() -> [Order; 161] {
+// Room for orders, and for their contracts. What it holds at first plays no part.
+pub fn order_room() -> [Order; 161] {
     [BLANK; 161]
+}
+
+pub fn contract_room() -> [Contracts; 161] {
+    [Contracts::NONE; 161]
+}
+
+pub fn rank_room() -> [Ranked; 161] {
+    [Ranked {
+        place: 0,
+        priority: 0,
+    }; 161]
 }

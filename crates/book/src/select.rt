@@ -20,8 +20,6 @@ pub enum Filter {
     Lasting(Millis),
     InBook,
     Outside,
-    // the customer's order of an auction
-    Auctioned,
     // an auction order that is not the customer's
     AuctionContra,
     // on the other side
@@ -30,10 +28,8 @@ pub enum Filter {
     BookContra(Side),
     // an order of the book on the other side, at this price or a better one for the taker
     Reachable(Side, Cents),
-    // an order of that side that trades at this price
+    // a buyer or seller that trades at this price
     Willing(Side, Cents),
-    // a buyer or a seller that trades at this price
-    Crossed(Cents),
     // this member's order of the book under this number
     OwnedBy(u16, u16),
     // this member's competing order under this number
@@ -89,7 +85,6 @@ impl Filter {
             Filter::Lasting(time) => !is_due(order.exposed, time),
             Filter::InBook => order.role.is_in_book(),
             Filter::Outside => !order.role.is_in_book(),
-            Filter::Auctioned => order.role.is_auctioned(),
             Filter::AuctionContra => !(order.role.is_in_book() || order.role.is_auctioned()),
             Filter::Contra(side) => order.side.is(side.other()),
             Filter::BookContra(side) => order.side.is(side.other()) && order.role.is_in_book(),
@@ -97,7 +92,6 @@ impl Filter {
                 && order.role.is_in_book()
                 && is_within(side, bound, order.kind.price()),
             Filter::Willing(side, price) => is_willing(order, side, price),
-            Filter::Crossed(price) => is_willing(order, order.side, price),
             Filter::OwnedBy(member, number) => order.number == number
                 && order.member == member
                 && order.role.is_in_book(),
@@ -109,7 +103,7 @@ impl Filter {
 }
 
 // Copies the orders that pass to the front of `out`, and answers how many.
-pub(crate) fn pick(orders: &[Order], filter: Filter, out: &mut [Order]) -> usize
+pub fn pick(orders: &[Order], filter: Filter, out: &mut [Order]) -> usize
     requires { length orders.now ≤ length out.old }
     ensures front { take result out.new ≡ kept_by (passes filter) orders.now }
     ensures count { result ≡ length (kept_by (passes filter) orders.now) }
@@ -139,7 +133,7 @@ pub fn count(orders: &[Order], filter: Filter) -> usize
 }
 
 // The contracts that stand of the orders that pass.
-pub(crate) fn volume(orders: &[Order], filter: Filter) -> Contracts
+pub fn volume(orders: &[Order], filter: Filter) -> Contracts
     requires few { length orders.now ≤ 161 }
     requires small { All (λ o. standing o ≤ 9999) orders.now }
     ensures { result.count ≡ sum_by standing (kept_by (passes filter) orders.now) }

@@ -1,12 +1,11 @@
 // The table that holds the order records.
 ghost use Rattle.std.specs.Prelude.{◌≡◌, ◌≤◌, true, length, take, count_by};
 ghost use Rattle.std.specs.List.{list_all};
-ghost use Rattle.book.specs.Records.{sound_record, booked, auction_contra, customers, rises};
+ghost use Rattle.book.specs.Records.{balanced, booked, auction_contra, customers, rises};
 
 use market::order::Order;
 
 mod changes;
-mod questions;
 
 // The first `count` records are live, in rising order of their numbers, all below `next`.
 #[derive(Clone, Copy)]
@@ -16,7 +15,7 @@ pub struct Table {
     next: u32,
     ghost long: { length records ≡ 161 },
     ghost few: { count ≤ 161 },
-    ghost sound: { list_all sound_record records ≡ true },
+    ghost sound: { list_all balanced records ≡ true },
     ghost rising: { rises 0 (take count records) next ≡ true },
     ghost books: { count_by booked (take count records) ≤ 128 },
     ghost rivals: { count_by auction_contra (take count records) ≤ 32 },

@@ -1,7 +1,7 @@
 // The theoretical opening price.
 ghost use Rattle.std.specs.Prelude.{◌≡◌, ◌+◌, ◌-◌, ◌<◌, ◌≤◌, true, [], ◌∷◌, fold};
 ghost use Rattle.std.specs.List.{AllByRecursion as All};
-ghost use Rattle.book.specs.Orders.{orders};
+ghost use Rattle.orders.specs.Orders.{orders};
 ghost use Rattle.rules.specs.Volume.{of_order};
 ghost use Rattle.rules.specs.Volume as model;
 ghost use Rattle.rules.specs.Opening as openings;
@@ -11,8 +11,8 @@ ghost use Rattle.discovery.specs.Rungs.{rungs, lower};
 ghost use Rattle.discovery.specs.Search.{Ready, Rated, Sound, Tried, beats, beside_steps, no_price, candidates, better_on};
 
 use crate::ladder::{Cursor, Ladder, build_ladder};
-use book::select::Filter;
-use book::table::Table;
+use orders::select::Filter;
+use orders::table::Table;
 use market::close::Close;
 use market::order::Side;
 use market::units::{Cents, Contracts};

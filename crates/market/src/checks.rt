@@ -29,12 +29,12 @@ impl Cents {
     pub fn is_on_grid(self) -> bool
         ensures { result ≡ on_grid self.value }
     {
-        let on_a_step = if self.value < COARSE_FROM {
-            self.value % FINE_STEP == 0
+        let step = if self.value < COARSE_FROM {
+            FINE_STEP
         } else {
-            self.value % COARSE_STEP == 0
+            COARSE_STEP
         };
-        self.is_price() && on_a_step
+        self.is_price() && self.value % step == 0
     }
 
     pub fn check_price(self) -> Result<(), Refusal>

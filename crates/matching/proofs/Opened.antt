@@ -10,17 +10,18 @@ use Rattle.market.specs.declared.order.Order.{Order}
 use Rattle.market.specs.declared.order.Side.{Side}
 use Rattle.market.specs.declared.order.Side.TheVariants.{Buy, Sell}
 use Rattle.rules.specs.Allocation.{after_trade, by_priority, live}
-use Rattle.rules.specs.Opening.{filled, opened_orders, opening_fill, opening_trade, with_limit}
+use Rattle.rules.specs.Opening.{filled, opened_orders, opening_fill, opening_trade}
+use Rattle.orders.specs.Changes.{limited_at}
 use Rattle.rules.specs.Volume.{matched_volume, of_order}
 use Rattle.rules.proofs.Matching.{all_from_kept}
 use Rattle.sharing.specs.Sharing.{Sharing}
 use Rattle.matching.specs.Matching.{wills, both_filled}
-use Rattle.book.specs.Blank.{no_order}
+use Rattle.orders.specs.Blank.{no_order}
 use Rattle.matching.specs.Scattering.{filled_places}
-use Rattle.book.specs.Records.{Live}
-use Rattle.book.specs.Changes.{settled}
+use Rattle.orders.specs.Records.{Live}
+use Rattle.orders.specs.Changes.{settled}
 use Rattle.matching.proofs.Scattering.{fill_passed, fill_other, places_fit}
-use Rattle.book.proofs.Settling.{settled_is}
+use Rattle.orders.proofs.Settling.{settled_is}
 use Rattle.matching.proofs.Stable.{length_by_priority}
 use Rattle.matching.proofs.Takings.{lot_passing}
 
@@ -44,12 +45,12 @@ nothing_traded o =
     }
 
 -- a limit leaves every order standing as it was
-limits_live : (p : ℕ) (os : List Order) → map (with_limit p) (live os) ≡ live (map (with_limit p) os)
+limits_live : (p : ℕ) (os : List Order) → map (limited_at p) (live os) ≡ live (map (limited_at p) os)
 limits_live p [] = refl
 limits_live p (o ∷ os) = go (ltb 0 (standing o)) (limits_live p os)
   where
-    go : (b : Bool) → map (with_limit p) (live os) ≡ live (map (with_limit p) os) → map (with_limit p) (cond b (o ∷ live os) (live os)) ≡ cond b (with_limit p o ∷ live (map (with_limit p) os)) (live (map (with_limit p) os))
-    go true h = ap (λ xs. with_limit p o ∷ xs) h
+    go : (b : Bool) → map (limited_at p) (live os) ≡ live (map (limited_at p) os) → map (limited_at p) (cond b (o ∷ live os) (live os)) ≡ cond b (limited_at p o ∷ live (map (limited_at p) os)) (live (map (limited_at p) os))
+    go true h = ap (λ xs. limited_at p o ∷ xs) h
     go false h = h
 
 map_same : (f g : Order → Order) → ((o : Order) → f o ≡ g o) → (os : List Order) → map f os ≡ map g os
@@ -101,11 +102,11 @@ module _ (rule : Sharing) (os : List Order) (p : ℕ) where
   abbrev pub own_wills : Order → Bool
   own_wills o = wills o.side p o
 
-  pub opened_are : map (with_limit p) (live (map (λ o. cond (own_wills o) (after_trade (own_fill o) o) o) os)) ≡ opened_orders rule os p
+  pub opened_are : map (limited_at p) (live (map (λ o. cond (own_wills o) (after_trade (own_fill o) o) o) os)) ≡ opened_orders rule os p
   opened_are =
       limits_live p (map (λ o. cond (own_wills o) (after_trade (own_fill o) o) o) os)
-      ∙ ap live (map-map (with_limit p) (λ o. cond (own_wills o) (after_trade (own_fill o) o) o) os)
-      ∙ ap live (map_same _ _ (λ o. ap (with_limit p) (same o (own_wills o))) os)
+      ∙ ap live (map-map (limited_at p) (λ o. cond (own_wills o) (after_trade (own_fill o) o) o) os)
+      ∙ ap live (map_same _ _ (λ o. ap (limited_at p) (same o (own_wills o))) os)
     where
       same : (o : Order) (b : Bool) → cond b (after_trade (own_fill o) o) o ≡ after_trade (cond b (own_fill o) 0) o
       same o true = refl
@@ -137,8 +138,8 @@ module _ (rule : Sharing) (os : List Order) (p : ℕ) where
             ∙ ap (λ s. opening_fill rule os p s o) (sym e)
 
     -- what is left is what the rules say, if no order trades more than stands of it
-    pub left_opened : ((s : Side) → All (λ o. opening_fill rule os p s o ≤ standing o) (filter (wills s p) os)) → map (with_limit p) (settled own_wills os (both_filled rule os p before)) ≡ opened_orders rule os p
-    left_opened within = ap (map (with_limit p)) (settled_is own_wills own_fill os (both_filled rule os p before) (record { same = own_filled; covered = covered })) ∙ opened_are
+    pub left_opened : ((s : Side) → All (λ o. opening_fill rule os p s o ≤ standing o) (filter (wills s p) os)) → map (limited_at p) (settled own_wills os (both_filled rule os p before)) ≡ opened_orders rule os p
+    left_opened within = ap (map (limited_at p)) (settled_is own_wills own_fill os (both_filled rule os p before) (record { same = own_filled; covered = covered })) ∙ opened_are
       where
         covered : (k : ℕ) → k < length os → own_wills (get_or os k no_order) ≡ true → own_fill (get_or os k no_order) ≤ standing (get_or os k no_order)
         covered k lt t =

@@ -2,9 +2,9 @@
 ghost use Rattle.std.specs.Prelude.{◌≡◌, ◌≤◌, ◌++◌, length, drop, count_by, filter as kept_by};
 ghost use Rattle.market.specs.Refusals.{refused_by, first_hit};
 ghost use Rattle.sharing.specs.Asked.{counts};
-ghost use Rattle.book.specs.Filters.{passes};
-ghost use Rattle.book.specs.Orders.{orders};
-ghost use Rattle.book.specs.Records.{Live};
+ghost use Rattle.orders.specs.Filters.{passes};
+ghost use Rattle.orders.specs.Orders.{orders};
+ghost use Rattle.orders.specs.Records.{Live};
 ghost use Rattle.matching.specs.Scattering.{filled_places};
 ghost use Rattle.matching.specs.Taking.{taker_fill, trades_of, taking_checks, Takes};
 
@@ -13,8 +13,8 @@ use crate::fills::scatter;
 use crate::priority::Ranked;
 use crate::room::{contract_room, rank_room};
 use crate::rows::write_trades;
-use book::select::{Filter, count};
-use book::table::Table;
+use orders::select::{Filter, count};
+use orders::table::Table;
 use market::order::{Order, Side};
 use market::refusal::Refusal;
 use market::row::Row;

@@ -1,5 +1,5 @@
 // Prints the opening prices of random books. With a number of rounds it also times the search for them.
-use book::table::Table;
+use orders::table::Table;
 use discovery::opening_price::top;
 use market::close::Close;
 use market::order::{Account, Order, OrderKind, Role, Side};

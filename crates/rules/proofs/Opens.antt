@@ -140,7 +140,7 @@ module _ (rule : Sharing) (facts : Facts rule) (close : ℕ) (st : State) (h : L
   opening_at t (Some x) is e =
       let p : ℕ = x.0 in
       let d : Order → ℕ = opening_trade rule st.orders p in
-      let g : Order → Order = λ o. with_limit p (after_trade (d o) o) in
+      let g : Order → Order = λ o. with_limit rule st.orders p (after_trade (d o) o) in
       let rows : List Row = opening_rows rule st.orders p in
       let os : List Order = live (map g st.orders) in
       let span : p ≤ 99999 = grid_fine p (facts.top_some st.orders st.close x is).1 in
@@ -168,7 +168,7 @@ module _ (rule : Sharing) (facts : Facts rule) (close : ℕ) (st : State) (h : L
         running = subst (λ y. Running y st.next os (h.orders ++ []) h.customer) (sym idle) tt;
       }
     where
-      roled_open : (a : Option Auction) (o : Order) (q p : ℕ) → Roled a o → Roled a (with_limit p (after_trade q o))
+      roled_open : (a : Option Auction) (o : Order) (q p : ℕ) → Roled a o → Roled a (with_limit rule st.orders p (after_trade q o))
       roled_open None o q p r = r
       roled_open (Some a) o q p (inl r) = inl r
       roled_open (Some a) o q p (inr r) = inr r

@@ -11,11 +11,11 @@ use Rattle.market.specs.declared.order.Role.{Role}
 use Rattle.market.specs.declared.order.Side.{Side}
 use Rattle.rules.specs.Calls.{new_order}
 use Rattle.rules.specs.Series.{State, early_or_late, off_grid}
-use Rattle.book.specs.Changes.{role_room, admissible, Appended}
-use Rattle.book.specs.Orders.{orders}
-use Rattle.book.specs.Records.{sound_record}
-use Rattle.book.specs.declared.table.Table.{Table}
-use Rattle.book.proofs.Records.{sound_from}
+use Rattle.orders.specs.Changes.{role_room, admissible, Appended}
+use Rattle.orders.specs.Orders.{orders}
+use Rattle.orders.specs.Records.{sound_record}
+use Rattle.orders.specs.declared.table.Table.{Table}
+use Rattle.orders.proofs.Records.{sound_from}
 
 -- ---- what the checks say in numbers
 

@@ -7,12 +7,13 @@ use Rattle.market.specs.Words.{in_book, standing}
 use Rattle.market.specs.declared.auction.Auction.{Auction}
 use Rattle.market.specs.declared.order.Order.{Order}
 use Rattle.rules.specs.Allocation.{after_trade}
-use Rattle.rules.specs.Opening.{top, opening_trade, with_limit}
+use Rattle.rules.specs.Opening.{top, opening_trade}
+use Rattle.orders.specs.Changes.{limited_at}
 use Rattle.rules.proofs.Matching.{kept_all}
 use Rattle.rules.proofs.Plain.{grid_fine}
 use Rattle.rules.proofs.Tops.{top_some}
 use Rattle.sharing.specs.Sharing.{Sharing}
-use Rattle.book.specs.Records.{booked, Live}
+use Rattle.orders.specs.Records.{booked, Live}
 use Rattle.series.specs.Held.{held_well, opened_or_quiet}
 use Rattle.series.specs.Openings.{Priced, orders_opened}
 use Rattle.series.proofs.Holding.{held_parts, held_from}
@@ -38,7 +39,7 @@ held_opened : (rule : Sharing) (os : List Order) (opening : Option (ℕ × ℕ))
 held_opened rule os None h = h
 held_opened rule os (Some x) h =
     let p = x.0 in
-    let g : Order → Order = λ o. with_limit p (after_trade (opening_trade rule os p o) o) in
+    let g : Order → Order = λ o. limited_at p (after_trade (opening_trade rule os p o) o) in
     held_from None (orders_opened rule os (Some x)) refl
     (all_kept_by (λ (o : Order). ltb 0 (standing o)) (λ (o : Order). in_book o.role ≡ true) _
     (All-map (λ (o : Order). in_book o.role ≡ true) g os (held_parts None os h).1))

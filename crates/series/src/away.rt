@@ -5,7 +5,7 @@ ghost use Rattle.rules.specs.Prices.{cents, away_best};
 ghost use Rattle.rules.specs.Series.{no_quotes};
 ghost use Rattle.series.specs.Quotes.{quote_in_span, quotes_in_span};
 
-use book::prices::away_best;
+use orders::prices::away_best;
 use market::order::Side;
 use market::quote::Quote;
 use market::units::Cents;

@@ -1,10 +1,10 @@
 // One series.
 ghost use Rattle.std.specs.Prelude.{◌≡◌, ◌≤◌, true};
-ghost use Rattle.book.specs.Orders.{orders};
+ghost use Rattle.orders.specs.Orders.{orders};
 ghost use Rattle.series.specs.Held.{held_well, opened_or_quiet};
 
 use crate::away::AwayQuotes;
-use book::table::Table;
+use orders::table::Table;
 use market::auction::Auction;
 use market::close::Close;
 use market::units::Millis;

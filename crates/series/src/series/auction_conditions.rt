@@ -9,8 +9,8 @@ ghost use Rattle.series.specs.Tickets.{shown};
 
 use crate::series::Series;
 use crate::ticket::Ticket;
-use book::prices::{better_price, book_best, is_better};
-use book::select::{Filter, count, find};
+use orders::prices::{better_price, book_best, is_better};
+use orders::select::{Filter, count, find};
 use market::auction::Auction;
 use market::order::{Order, Side};
 use market::units::{Cents, Contracts, Millis};

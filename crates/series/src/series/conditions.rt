@@ -5,7 +5,7 @@ ghost use Rattle.rules.specs.Series.{early_or_late, exposure_due, auction_due, s
 ghost use Rattle.series.specs.State.{state};
 
 use crate::series::Series;
-use book::select::{Filter, count};
+use orders::select::{Filter, count};
 use market::auction::Auction;
 use market::row::Row;
 use market::units::Millis;

@@ -1,6 +1,6 @@
 // The opening of a series.
 ghost use Rattle.std.specs.Prelude.{◌≡◌, ◌≤◌, length};
-ghost use Rattle.book.specs.Orders.{orders};
+ghost use Rattle.orders.specs.Orders.{orders};
 ghost use Rattle.rules.specs.Calls as calls;
 ghost use Rattle.series.specs.Answers.{Answers, told_open, handed_open};
 ghost use Rattle.series.specs.Openings.{Priced, Matched};
@@ -9,7 +9,7 @@ ghost use Rattle.series.specs.State.{state};
 use crate::answer::Opened;
 use crate::pass::{PreOpeningPass, TradingPass};
 use crate::series::Series;
-use book::table::Table;
+use orders::table::Table;
 use discovery::opening_price::top;
 use market::refusal::Refusal;
 use market::row::Row;

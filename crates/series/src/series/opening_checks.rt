@@ -11,7 +11,7 @@ ghost use Rattle.series.specs.State.{state};
 use crate::pass::PreOpeningPass;
 use crate::series::Series;
 use crate::series::conditions::{DAY_END, are_few};
-use book::prices::is_out_of_range;
+use orders::prices::is_out_of_range;
 use market::order::{Order, OrderKind};
 use market::refusal::Refusal;
 use market::row::Row;

@@ -4,12 +4,12 @@ ghost use Rattle.market.specs.Words.{limit_at};
 ghost use Rattle.market.specs.declared.order.Account.TheVariants.{MarketMaker};
 ghost use Rattle.rules.specs.Calls.{new_order, without_old, withdrawn_rows};
 ghost use Rattle.rules.specs.Runs.{written};
-ghost use Rattle.book.specs.Changes.{admissible};
-ghost use Rattle.book.specs.Orders.{orders};
+ghost use Rattle.orders.specs.Changes.{admissible};
+ghost use Rattle.orders.specs.Orders.{orders};
 
-use book::departures::Departure;
-use book::select::Filter;
-use book::table::Table;
+use orders::departures::Departure;
+use orders::select::Filter;
+use orders::table::Table;
 use market::order::{Account, Order, OrderKind, Role, Side};
 use market::row::Row;
 use market::units::{Cents, Contracts};

@@ -1,11 +1,11 @@
 // Taking from the table of a series.
 ghost use Rattle.std.specs.Prelude.{◌≤◌, length, count_by};
-ghost use Rattle.book.specs.Filters.{passes};
-ghost use Rattle.book.specs.Orders.{orders};
+ghost use Rattle.orders.specs.Filters.{passes};
+ghost use Rattle.orders.specs.Orders.{orders};
 ghost use Rattle.matching.specs.Taking.{Took};
 
-use book::select::Filter;
-use book::table::Table;
+use orders::select::Filter;
+use orders::table::Table;
 use market::row::Row;
 use market::units::Contracts;
 use matching::take::{Taken, Taker, take};

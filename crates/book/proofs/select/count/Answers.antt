@@ -2,7 +2,7 @@ use Rattle.std.proofs.Common.{count_by, sym, ap, ◌∙◌, arith}
 use Rattle.std.proofs.lemmas.List.{take_all}
 use Rattle.std.proofs.lemmas.List.Sums.{count_by_more_yes, count_by_more_no}
 use Rattle.book.specs.Filters.{passes}
-use Rattle.book.specs.Blank.{no_order}
+use Rattle.book.specs.Places.{no_order}
 use Rattle.book.proofs.select.count.Goals as goal
 use Rattle.book.proofs.select.count.Goals.{then-passes, else-passes}
 

@@ -3,7 +3,7 @@ use Rattle.std.proofs.lemmas.List.{at_drop_all, at_drop_more}
 use Rattle.std.proofs.lemmas.Bool.{cond-true, cond-false}
 use Rattle.rules.specs.Series.{found}
 use Rattle.book.specs.Filters.{passes}
-use Rattle.book.specs.Blank.{no_order}
+use Rattle.book.specs.Places.{no_order}
 use Rattle.book.proofs.select.find.Goals as goal
 
 pub returns-then-passes : goal.returns-then-passes

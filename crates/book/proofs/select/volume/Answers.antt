@@ -2,7 +2,7 @@ use Rattle.std.proofs.Common.{◌+◌, sum_by, filter, sym, ap, ◌∙◌, arith
 use Rattle.std.proofs.lemmas.List.{take_all}
 use Rattle.market.specs.Words.{standing}
 use Rattle.book.specs.Filters.{passes}
-use Rattle.book.specs.Blank.{no_order}
+use Rattle.book.specs.Places.{no_order}
 use Rattle.book.proofs.Walks.{kept_sum_yes, kept_sum_no, kept_sum_small}
 use Rattle.book.proofs.select.volume.Goals as goal
 use Rattle.book.proofs.select.volume.Goals.{then-passes, else-passes}

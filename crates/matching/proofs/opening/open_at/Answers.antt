@@ -2,14 +2,15 @@ use Rattle.std.proofs.Common.{◌≡◌, ℕ, ◌-◌, ◌≤◌, leb, List, ◌
 use Rattle.std.proofs.lemmas.Bool.{cond-true, le-leb}
 use Rattle.market.specs.Refusals.{first_hit}
 use Rattle.market.specs.declared.order.Order.{Order}
-use Rattle.rules.specs.Opening.{opening_rows, with_limit}
+use Rattle.rules.specs.Opening.{opening_rows}
+use Rattle.orders.specs.Changes.{limited_at}
 use Rattle.rules.specs.Volume.{matched_volume, of_order}
 use Rattle.rules.proofs.Fills.{fill_within}
 use Rattle.sharing.specs.Asked.{counts}
 use Rattle.sharing.proofs.Counts.{length_counts}
-use Rattle.book.specs.Changes.{limited, settled}
-use Rattle.book.specs.Orders.{orders}
-use Rattle.book.proofs.Records.{live_upto, table_live}
+use Rattle.orders.specs.Changes.{limited, settled}
+use Rattle.orders.specs.Orders.{orders}
+use Rattle.orders.proofs.Records.{live_upto, table_live}
 use Rattle.matching.specs.Matching.{both_filled, opening_checks, wills}
 use Rattle.matching.proofs.Bounds.{opening_bounds, front_fits, front_is}
 use Rattle.matching.proofs.Opened.{each_few, left_opened, matched_small, own_wills}
@@ -69,7 +70,7 @@ returns g c =
         left =
             c.limit.ensures.records
             ∙ ap (limited p) (c.settle.ensures.records ∙ ap (settled (own_wills rule os p) os) fills)
-            ∙ cond-true (leb p 99999) (map (with_limit p) left) left (le-leb p 99999 b.price)
+            ∙ cond-true (leb p 99999) (map (limited_at p) left) left (le-leb p 99999 b.price)
             ∙ left_opened rule os p before long
             (λ s. fill_within rule (g.met.R.SharingRule.lawful a.rule.now) (filter (wills s p) os) (matched_volume of_order os p) None 0 (lot_passing (wills s p) os live (omega (arith, each_few (wills s p) os))) (matched_small os p live few) (omega arith));
         numbers = c.limit.ensures.numbers ∙ c.settle.ensures.numbers;

@@ -1,12 +1,55 @@
-use Rattle.std.proofs.Common.{◌≡◌, ◌<◌, sym, arith}
-use Rattle.book.specs.Orders.{orders}
-use Rattle.book.proofs.Records.{live_push, table_live}
+use Rattle.std.proofs.Common.{◌≡◌, ℕ, ◌+◌, ◌≤◌, true, List, [], ◌∷◌, ◌++◌, length, take, set, sym, ◌∙◌, subst, arith}
+use Rattle.std.proofs.lemmas.List.{length-set, length-append, length-take-le, take_more_set}
+use Rattle.std.proofs.ByRecursion.{all-has, All-set, has_push}
+use Rattle.market.specs.declared.order.Order.{Order}
+use Rattle.book.specs.Records.{balanced, Live}
+use Rattle.book.proofs.Records.{pass_all, all_passes}
 use Rattle.book.proofs.table.Table.append.Goals as goal
 
-pub push-requires : goal.push-requires
-push-requires c =
+room : (records : List Order) (count next : ℕ) (o : Order) → count ≤ length records → Live (take count records ++ (o ∷ [])) next → count + 1 ≤ 161
+room records count next o le l = let few = l.few in omega (arith, length-append (take count records) (o ∷ []), length-take-le count records le)
+
+pub offset-bounds-records-self : goal.offset-bounds-records-self
+offset-bounds-records-self c =
+    let t = c.args.self.now in
+    let few = t.few in
+    let long = t.long in
+    omega (arith, room t.records t.count (t.next + 1) c.args.order (omega arith) c.requires.live)
+
+pub bounds-records-self : goal.bounds-records-self
+bounds-records-self c =
+    let t = c.args.self.now in
+    let few = t.few in
+    let long = t.long in
+    omega (arith, room t.records t.count (t.next + 1) c.args.order (omega arith) c.requires.live)
+
+pub invariant-of-self : goal.invariant-of-self
+invariant-of-self c =
     let t = c.args.self.now in
     let o = c.args.order in
-    let e : o.number ≡ t.next = omega arith in
-    let lt : t.next < 65536 = omega arith in
-    record { unused = e; live = live_push (orders t) t.next (table_live t) o e lt (sym c.if-not-is-sound.ensures) (sym c.if-not-has-room.ensures) }
+    let live = take t.count t.records in
+    let few = t.few in
+    let long = t.long in
+    let one = room t.records t.count (t.next + 1) o (omega arith) c.requires.live in
+    let e = take_more_set t.records t.count o (omega arith) in
+    let grown : Live (take (t.count + 1) (set t.records t.count o)) (o.number + 1) =
+    subst (λ (n : ℕ). Live (take (t.count + 1) (set t.records t.count o)) (n + 1)) (sym c.requires.unused) (subst (λ (xs : List Order). Live xs (t.next + 1)) (sym e) c.requires.live) in
+    let fine : balanced o ≡ true = all-has (λ (x : Order). balanced x ≡ true) (live ++ (o ∷ [])) o c.requires.live.sound (has_push live o) in (
+      length-set t.records t.count o ∙ t.long,
+      (
+        omega arith,
+        (
+          all_passes balanced (set t.records t.count o) (All-set (λ (x : Order). balanced x ≡ true) t.records t.count o fine (pass_all balanced t.records t.sound)),
+          (grown.rising, (grown.books, (grown.rivals, (grown.customer, (grown.numbers, tt))))),
+        ),
+      ),
+    )
+
+pub returns : goal.returns
+returns c =
+    let t = c.args.self.now in
+    let few = t.few in
+    let long = t.long in
+    let one = room t.records t.count (t.next + 1) c.args.order (omega arith) c.requires.live in
+    let unused = c.requires.unused in
+    record { records = take_more_set t.records t.count c.args.order (omega arith); numbers = omega arith }

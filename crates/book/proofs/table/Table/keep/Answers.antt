@@ -13,4 +13,4 @@ replace-requires c =
     let os = c.live.result.now in
     let next = c.args.self.now.next in
     let e : take (n - 0) out ≡ filter (passes c.args.filter) os = ap (λ (k : ℕ). take k out) (sub-zero n) ∙ c.pick-n.ensures.front in
-    subst (λ (xs : List Order). Live xs next) (sym e) (live_kept (passes c.args.filter) os next c.live.ensures.kept)
+    record { live = subst (λ (xs : List Order). Live xs next) (sym e) (live_kept (passes c.args.filter) os next c.live.ensures.kept) }

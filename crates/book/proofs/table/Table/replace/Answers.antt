@@ -3,7 +3,7 @@ use Rattle.std.specs.List.{AllByRecursion as All}
 use Rattle.std.proofs.lemmas.List.{take_at}
 use Rattle.std.proofs.ByRecursion.{All-append, All-drop}
 use Rattle.market.specs.declared.order.Order.{Order}
-use Rattle.book.specs.Records.{sound_record, Live}
+use Rattle.book.specs.Records.{balanced, Live}
 use Rattle.book.proofs.Records.{pass_all, all_passes}
 use Rattle.book.proofs.table.Table.replace.Goals as goal
 
@@ -19,14 +19,14 @@ invariant-of-self c =
     let e : ys ≡ live = c.copy-from-slice.ensures.after in
     let rest = drop (n - 0) t.records in
     let long = t.long in
-    let few = c.requires.few in
+    let few = c.requires.live.few in
     let f = front live ys rest e in
-    let now : Live (take n (ys ++ rest)) t.next = subst (λ (xs : List Order). Live xs t.next) (sym f) c.requires in (
+    let now : Live (take n (ys ++ rest)) c.args.next = subst (λ (xs : List Order). Live xs c.args.next) (sym f) c.requires.live in (
       omega (arith, length-append ys rest, length-drop (n - 0) t.records, ap length e),
       (
         few,
         (
-          all_passes sound_record (ys ++ rest) (All-append (λ (x : Order). sound_record x ≡ true) ys rest (subst (All (λ (x : Order). sound_record x ≡ true)) (sym e) c.requires.sound) (All-drop (λ (x : Order). sound_record x ≡ true) (n - 0) t.records (pass_all sound_record t.records t.sound))),
+          all_passes balanced (ys ++ rest) (All-append (λ (x : Order). balanced x ≡ true) ys rest (subst (All (λ (x : Order). balanced x ≡ true)) (sym e) c.requires.live.sound) (All-drop (λ (x : Order). balanced x ≡ true) (n - 0) t.records (pass_all balanced t.records t.sound))),
           (now.rising, (now.books, (now.rivals, (now.customer, (now.numbers, tt))))),
         ),
       ),

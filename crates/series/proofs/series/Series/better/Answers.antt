@@ -16,9 +16,9 @@ use Rattle.rules.specs.Calls.{Ticket, Effect, better, bettered, checks, effect, 
 use Rattle.rules.specs.Runs.{accepted, written}
 use Rattle.rules.specs.Runs as runs
 use Rattle.rules.specs.Series.{starter_order}
-use Rattle.book.specs.Changes.{admissible}
-use Rattle.book.specs.Orders.{orders}
-use Rattle.book.specs.Records.{auction_contra}
+use Rattle.orders.specs.Changes.{admissible}
+use Rattle.orders.specs.Orders.{orders}
+use Rattle.orders.specs.Records.{auction_contra}
 use Rattle.sharing.specs.Sharing.{Sharing}
 use Rattle.series.specs.Answers.{Answers}
 use Rattle.series.specs.Held.{held_well}

@@ -9,8 +9,8 @@ use Rattle.market.specs.declared.row.Row.{Row}
 use Rattle.rules.specs.Calls.{checks, clock, exposure_row}
 use Rattle.rules.specs.Runs.{accepted, nothing}
 use Rattle.rules.specs.Series.{due}
-use Rattle.book.specs.Orders.{orders}
-use Rattle.book.specs.Records.{Live}
+use Rattle.orders.specs.Orders.{orders}
+use Rattle.orders.specs.Records.{Live}
 use Rattle.sharing.specs.Sharing.{Sharing}
 use Rattle.series.specs.State.{state}
 use Rattle.series.proofs.Adding.{timely}

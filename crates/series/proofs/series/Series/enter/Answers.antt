@@ -12,8 +12,8 @@ use Rattle.rules.specs.Calls.{enter, checks}
 use Rattle.rules.specs.Prices.{cents}
 use Rattle.rules.specs.Series.{State}
 use Rattle.rules.proofs.Plain.{grid_fine, size_fine}
-use Rattle.book.specs.Orders.{orders}
-use Rattle.book.specs.Records.{booked}
+use Rattle.orders.specs.Orders.{orders}
+use Rattle.orders.specs.Records.{booked}
 use Rattle.series.specs.State.{state}
 use Rattle.series.proofs.Answering.{all_clear}
 use Rattle.series.proofs.Entering.{enterable, held_entered, enters}

@@ -6,8 +6,8 @@ use Rattle.market.specs.declared.row.Row.{Row}
 use Rattle.market.specs.declared.units.Millis.{Millis}
 use Rattle.rules.specs.Calls.{Ticket, finish, checks}
 use Rattle.rules.specs.Series.{State}
-use Rattle.book.specs.Orders.{orders}
-use Rattle.book.proofs.Records.{table_live}
+use Rattle.orders.specs.Orders.{orders}
+use Rattle.orders.proofs.Records.{table_live}
 use Rattle.series.specs.Held.{held_well}
 use Rattle.series.specs.State.{state}
 use Rattle.series.specs.Tickets.{shown}

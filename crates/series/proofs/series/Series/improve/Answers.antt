@@ -14,9 +14,9 @@ use Rattle.market.specs.declared.units.Contracts.{Contracts}
 use Rattle.market.specs.declared.units.Millis.{Millis}
 use Rattle.rules.specs.Calls.{improve, checks, new_order, without_old}
 use Rattle.rules.specs.Series.{replaced}
-use Rattle.book.specs.Changes.{admissible}
-use Rattle.book.specs.Orders.{orders}
-use Rattle.book.specs.Records.{auction_contra}
+use Rattle.orders.specs.Changes.{admissible}
+use Rattle.orders.specs.Orders.{orders}
+use Rattle.orders.specs.Records.{auction_contra}
 use Rattle.series.specs.Held.{held_well}
 use Rattle.series.specs.State.{state}
 use Rattle.series.specs.declared.series.Series.{Series}

@@ -5,8 +5,8 @@ use Rattle.market.specs.declared.row.Row.{Row}
 use Rattle.market.specs.declared.units.Millis.{Millis}
 use Rattle.rules.specs.Calls.{opening, checks}
 use Rattle.rules.specs.Series.{State}
-use Rattle.book.specs.Orders.{orders}
-use Rattle.book.proofs.Records.{table_live}
+use Rattle.orders.specs.Orders.{orders}
+use Rattle.orders.proofs.Records.{table_live}
 use Rattle.series.specs.State.{state}
 use Rattle.series.proofs.Answering.{all_clear}
 use Rattle.series.proofs.Opening.{quiet_before, few_orders, priced_top, held_after}

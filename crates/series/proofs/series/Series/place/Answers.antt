@@ -12,10 +12,10 @@ use Rattle.market.specs.declared.units.Contracts.{Contracts}
 use Rattle.market.specs.declared.units.Millis.{Millis}
 use Rattle.rules.specs.Calls.{place, checks, new_order}
 use Rattle.rules.specs.Runs.{accepted, nothing}
-use Rattle.book.specs.Changes.{Appended}
-use Rattle.book.specs.Orders.{orders}
-use Rattle.book.specs.Records.{booked}
-use Rattle.book.specs.declared.table.Table.{Table}
+use Rattle.orders.specs.Changes.{Appended}
+use Rattle.orders.specs.Orders.{orders}
+use Rattle.orders.specs.Records.{booked}
+use Rattle.orders.specs.declared.table.Table.{Table}
 use Rattle.sharing.specs.Sharing.{Sharing}
 use Rattle.series.specs.State.{state}
 use Rattle.series.specs.declared.series.Series.{Series}

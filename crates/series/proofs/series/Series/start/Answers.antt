@@ -12,7 +12,7 @@ use Rattle.market.specs.declared.units.Cents.{Cents}
 use Rattle.market.specs.declared.units.Contracts.{Contracts}
 use Rattle.market.specs.declared.units.Millis.{Millis}
 use Rattle.rules.specs.Calls.{start, checks, new_order}
-use Rattle.book.specs.Orders.{orders}
+use Rattle.orders.specs.Orders.{orders}
 use Rattle.series.specs.Held.{held_well}
 use Rattle.series.specs.State.{state}
 use Rattle.series.specs.declared.series.Series.{Series}

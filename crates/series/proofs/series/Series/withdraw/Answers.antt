@@ -1,5 +1,5 @@
 use Rattle.rules.specs.Calls.{checks, withdraw, without}
-use Rattle.book.specs.Orders.{orders}
+use Rattle.orders.specs.Orders.{orders}
 use Rattle.series.specs.State.{state}
 use Rattle.series.proofs.Adding.{timely}
 use Rattle.series.proofs.Answering.{all_clear}

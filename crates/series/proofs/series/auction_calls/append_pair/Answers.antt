@@ -8,8 +8,8 @@ use Rattle.market.specs.declared.order.Order.{Order}
 use Rattle.market.specs.declared.order.Role.TheVariants.{Auctioned, Starter}
 use Rattle.market.specs.declared.order.Side.{Side}
 use Rattle.rules.specs.Calls.{new_order}
-use Rattle.book.specs.Orders.{orders}
-use Rattle.book.specs.Records.{customers, auction_contra}
+use Rattle.orders.specs.Orders.{orders}
+use Rattle.orders.specs.Records.{customers, auction_contra}
 use Rattle.series.proofs.Adding.{added}
 use Rattle.series.proofs.series.auction_calls.append_pair.Goals as goal
 

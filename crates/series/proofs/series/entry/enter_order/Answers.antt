@@ -1,7 +1,7 @@
 use Rattle.std.proofs.Common.{◌≤◌, count_by, ap, arith}
 use Rattle.rules.specs.Prices.{cents}
-use Rattle.book.specs.Orders.{orders}
-use Rattle.book.specs.Records.{booked}
+use Rattle.orders.specs.Orders.{orders}
+use Rattle.orders.specs.Records.{booked}
 use Rattle.series.specs.Entering.{reachable, entry_fill}
 use Rattle.series.specs.Remainders.{standing_orders, returning_rows}
 use Rattle.series.proofs.Entering.{reachable_few, booked_left, remainder_fits, took_within, admitted}

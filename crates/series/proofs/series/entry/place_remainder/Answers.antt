@@ -3,8 +3,8 @@ use Rattle.std.specs.List.{AllByRecursion as All}
 use Rattle.std.proofs.lemmas.List.{append-nil, take-append-drop, take-set, drop-set}
 use Rattle.market.specs.declared.order.Order.{Order}
 use Rattle.market.specs.declared.row.Row.{Row}
-use Rattle.book.specs.Changes.{admissible}
-use Rattle.book.specs.Orders.{orders}
+use Rattle.orders.specs.Changes.{admissible}
+use Rattle.orders.specs.Orders.{orders}
 use Rattle.series.specs.Remainders.{standing_orders, returning_rows}
 use Rattle.series.specs.declared.remainder.Remainder.{Remainder}
 use Rattle.series.proofs.Tables.{skipped_next, appended_orders, appended_next}

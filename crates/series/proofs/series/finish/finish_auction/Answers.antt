@@ -2,8 +2,8 @@ use Rattle.std.proofs.Common.{◌-◌, ◌≤◌, length, drop, count_by, filter
 use Rattle.std.proofs.lemmas.List.{length-drop, length-map, length-take}
 use Rattle.std.proofs.lemmas.List.Sums.{length-filter}
 use Rattle.rules.specs.Calls.{withdrawn_row}
-use Rattle.book.specs.Filters.{passes}
-use Rattle.book.specs.declared.select.Filter.TheVariants.{Outside}
+use Rattle.orders.specs.Filters.{passes}
+use Rattle.orders.specs.declared.select.Filter.TheVariants.{Outside}
 use Rattle.series.proofs.Finishing.{outside_few, finished_so}
 use Rattle.series.proofs.series.finish.finish_auction.Goals as goal
 

@@ -4,7 +4,7 @@ use Rattle.std.proofs.lemmas.List.Sums.{sum_by-cons}
 use Rattle.std.proofs.lemmas.Bool.{lt-ltb}
 use Rattle.market.specs.declared.order.Order.{Order}
 use Rattle.rules.specs.Series.{on_opening}
-use Rattle.book.specs.Blank.{no_order}
+use Rattle.orders.specs.Blank.{no_order}
 use Rattle.series.proofs.series.opening_checks.has_on_opening.Goals as goal
 
 abbrev on_opening_order : Order → Bool

@@ -1,0 +1,14 @@
+use Rattle.std.proofs.Common.{◌+◌, arith}
+use Rattle.book.specs.Rungs.{rungs}
+use Rattle.book.proofs.Walking.{lower_le}
+use Rattle.book.proofs.opening_price.rated.Goals as goal
+
+pub overflow-sub-demand : goal.overflow-sub-demand
+overflow-sub-demand c =
+    let l = c.args.opening.now.buys in
+    omega (arith, lower_le (rungs l) c.args.price, c.requires.ready.buys.limits, c.requires.buys)
+
+pub overflow-add-supply : goal.overflow-add-supply
+overflow-add-supply c =
+    let l = c.args.opening.now.sells in
+    omega (arith, lower_le (rungs l) (c.args.price + 1), c.requires.ready.sells.limits, c.requires.ready.sells.light, c.requires.sells)

@@ -1,0 +1,7 @@
+// Tests of the order table, the matching and the opening price on examples.
+#[cfg(test)]
+mod book_cases;
+#[cfg(test)]
+mod opening_cases;
+#[cfg(test)]
+mod tables;

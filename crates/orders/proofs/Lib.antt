@@ -1,0 +1,5 @@
+pub mod Walks
+pub mod Records
+pub mod Settling
+pub mod Writing
+pub mod Departing
