@@ -1,4 +1,6 @@
 // The order book under the calls of a series.
+#![tactic(auto)]
+
 pub mod allocation;
 mod ladder;
 pub mod opening_price;

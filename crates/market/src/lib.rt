@@ -1,4 +1,6 @@
 // The words of the trade: prices, sizes, times, orders, rows, refusals and the price grid.
+#![tactic(auto)]
+
 pub mod auction;
 pub mod checks;
 pub mod close;

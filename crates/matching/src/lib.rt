@@ -1,4 +1,6 @@
 // Matching: what a taker takes from the book, and what an opening trades.
+#![tactic(auto)]
+
 pub mod allocation;
 mod fills;
 pub mod opening;

@@ -1,4 +1,6 @@
 // The order book: the table of order records, and what is asked of it.
+#![tactic(auto)]
+
 pub mod departures;
 pub mod prices;
 mod room;

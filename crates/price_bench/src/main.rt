@@ -1,4 +1,6 @@
 // Prints the opening prices of random books. With a number of rounds it also times the search for them.
+#![tactic(auto)]
+
 use orders::table::Table;
 use discovery::opening_price::top;
 use market::close::Close;

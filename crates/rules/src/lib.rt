@@ -1,4 +1,6 @@
 // The rules of the series as a formal model, and what is proved of them. Each function here only carries a theorem.
+#![tactic(auto)]
+
 ghost use Rattle.rules.specs.Books.{BooksHold};
 ghost use Rattle.rules.specs.Law.{NoOrderDenied, RecordsAddUp, DeliveredRulesLawful, RefusalsChangeNothing};
 ghost use Rattle.rules.specs.Opening.{TopIsTheTop};

@@ -1,4 +1,6 @@
 // One options series: who may call it, what it holds, and its calls.
+#![tactic(auto)]
+
 pub mod answer;
 mod away;
 pub mod day;

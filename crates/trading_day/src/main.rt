@@ -1,4 +1,6 @@
 // Prints a day of one series: the questions that may be asked before the opening, then every call with its answer and rows.
+#![tactic(auto)]
+
 mod calls;
 #[cfg(test)]
 mod day_cases;

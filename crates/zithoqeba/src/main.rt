@@ -1,4 +1,6 @@
 // Prints how the two sharing rules divide a few price levels.
+#![tactic(auto)]
+
 ghost use Rattle.std.specs.Prelude.{◌≡◌};
 
 use market::units::Contracts;
