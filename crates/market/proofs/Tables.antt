@@ -1,5 +1,5 @@
 -- Reading a table of checks.
-use Rattle.std.proofs.Common.{◌≡◌, ℕ, Bool, true, false, List, [], ◌∷◌, Some, None, Option, refl, arith}
+use Rattle.std.proofs.Common.{◌≡◌, ℕ, Bool, true, false, List, [], ◌∷◌, Some, None, refl, arith}
 use Rattle.market.specs.Refusals.{first_hit}
 
 -- a table that no check hits: the first does not, nor does any below it

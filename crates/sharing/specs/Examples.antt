@@ -1,5 +1,5 @@
 -- Worked examples of the two rules.
-use Rattle.std.specs.Prelude.{◌≡◌, List, [], ◌∷◌, Some, None}
+use Rattle.std.specs.Prelude.{◌≡◌, [], ◌∷◌, Some, None}
 use Rattle.sharing.specs.ProRata.{pro_rata}
 use Rattle.sharing.specs.Time.{time_with_guarantee}
 

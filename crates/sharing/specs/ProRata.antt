@@ -1,5 +1,5 @@
 -- Sharing in proportion to the claims.
-use Rattle.std.specs.Prelude.{ℕ, ◌+◌, ◌-◌, ◌*◌, ◌/◌, ◌%◌, ◌<◌, min, cond, List, [], ◌∷◌, length, sum_by, sum, Option, nat_le, slice_index}
+use Rattle.std.specs.Prelude.{ℕ, ◌+◌, ◌-◌, ◌*◌, ◌/◌, ◌%◌, ◌<◌, min, cond, List, [], ◌∷◌, sum_by, sum, Option, nat_le, slice_index}
 
 -- a claim's part of the amount, rounded down
 abbrev pub part : ℕ → ℕ → ℕ → ℕ

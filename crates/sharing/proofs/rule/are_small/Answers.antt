@@ -1,4 +1,4 @@
-use Rattle.std.proofs.Common.{◌≡◌, ℕ, ◌+◌, ◌<◌, Bool, true, false, ◌&&◌, leb, length, get_or, drop, sym, ap, ◌∙◌, arith}
+use Rattle.std.proofs.Common.{◌+◌, ◌&&◌, leb, get_or, drop, sym, ap, ◌∙◌, arith}
 use Rattle.std.specs.List.{list_all}
 use Rattle.std.proofs.lemmas.List.{at_drop_more, at_drop_all}
 use Rattle.std.proofs.lemmas.Bool.{le-leb, lt-leb, and_left}
@@ -6,8 +6,8 @@ use Rattle.sharing.specs.Asked.{counts}
 use Rattle.sharing.proofs.Counts.{counts_at, length_counts}
 use Rattle.sharing.proofs.rule.are_small.Goals as goal
 
-pub returns-then-claim-gt-LARGEST-CLAIM : goal.returns-then-claim-gt-LARGEST-CLAIM
-returns-then-claim-gt-LARGEST-CLAIM c =
+pub returns-then-claim-gt-LARGEST_CLAIM : goal.returns-then-claim-gt-LARGEST_CLAIM
+returns-then-claim-gt-LARGEST_CLAIM c =
     let cs = counts c.args.claims.now in
     let i = c.loop-claim.claim-index in
     let at = counts_at c.args.claims.now i in
