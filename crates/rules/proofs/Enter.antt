@@ -17,14 +17,13 @@ use Rattle.market.specs.declared.units.Millis.{Millis}
 use Rattle.rules.specs.Allocation.{fill, taker_rows}
 use Rattle.rules.specs.Calls.{checks, effect, enter, new_order, remainder}
 use Rattle.rules.specs.Ledger.{Entry, Ledger, named, stands_at}
-use Rattle.rules.specs.Opening.{grid}
 use Rattle.rules.specs.Prices.{away_best, bound, reaches}
 use Rattle.rules.specs.Series.{State, book_against, left_under}
 use Rattle.market.specs.Words.{auctioned, in_book, limit_at, market_maker, or_else, other, same_side, standing}
 use Rattle.sharing.specs.Sharing.{Sharing}
 use Rattle.rules.proofs.Tally.{sum_none, sum_under, all_both, all_of}
 use Rattle.rules.proofs.Sound.{Agrees, Roled, Sound, Good, Fine, other_auction, Facts, Lot, reached}
-use Rattle.rules.proofs.Matching.{lot_of, named_append, kept_kept, kept_same, matched_append, all_from_kept, rising_kept, kept_none}
+use Rattle.rules.proofs.Matching.{lot_of, named_append, kept_kept, matched_append, all_from_kept, rising_kept, kept_none}
 use Rattle.rules.proofs.Plain.{posting, size_fine, grid_fine, roled_new}
 use Rattle.rules.proofs.Swaps.{priced_after}
 use Rattle.rules.proofs.Trading.{traded, traded_accounts, traded_all, traded_good, traded_matched, traded_count, roled_trade, Rests, rests, rest_matched, away_below}

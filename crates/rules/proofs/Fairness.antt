@@ -24,9 +24,8 @@ use Rattle.rules.specs.Allocation.{after_trade, fill, live, taker_rows}
 use Rattle.rules.specs.Calls.{Effect, Ticket, checks, effect, effect_of, enter, finish, finished, new_order, opened, opening, remainder, without}
 use Rattle.rules.specs.Law.{AtPrice, BestAuction, BestEntry, Best-opening, BestTrades, Choice, CustomerOf, Outdone, Rising, WillingAt, allowed, AtLeastAsGood, chosen_contracts, chosen_total, surplus_at, taker, volume_at}
 use Rattle.rules.specs.Ledger.{Entry, Ledger, balance, contracts_in, named, of_entry, stands, t_rows, total_of}
-use Rattle.rules.specs.Opening.{grid, opening_rows, top}
+use Rattle.rules.specs.Opening.{opening_rows, top}
 use Rattle.rules.specs.Prices.{away_best, bound, distance, reaches, within}
-use Rattle.rules.specs.Runs.{after}
 use Rattle.rules.specs.Series.{State, book_against, left_under}
 use Rattle.rules.specs.Volume.{matched_volume, of_order, surplus, volume, willing, willing_at}
 use Rattle.market.specs.Words.{departure, in_book, is_trade, limit_at, or_else, other, price_of, same_side, standing, trade}
@@ -37,7 +36,7 @@ use Rattle.rules.proofs.Matching.{lot_of, left_none, left_here, left_past, kept_
 use Rattle.rules.proofs.Takes.{rows_all}
 use Rattle.rules.proofs.Plain.{size_fine, grid_fine}
 use Rattle.rules.proofs.Trading.{rests, away_below}
-use Rattle.rules.proofs.Enter.{against_is, against, fills, lot_contra, whole}
+use Rattle.rules.proofs.Enter.{against_is, against, lot_contra}
 use Rattle.rules.proofs.Finish.{leftover, run, is_contra, contra, shares, lot_contra_all, fifth, all_shared, finish_runs}
 use Rattle.rules.proofs.Opens.{priced_false, fine_all, lot_all, opening_before}
 use Rattle.rules.proofs.Steps.{zero_one, accepts}

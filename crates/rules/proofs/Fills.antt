@@ -13,7 +13,6 @@ use Rattle.market.specs.declared.order.Side.{Side}
 use Rattle.market.specs.declared.order.Side.TheVariants.{Buy, Sell}
 use Rattle.rules.specs.Allocation.{fill, level, mark_among, next_place, place_of, priority, priority_at, share_at, volume_ahead}
 use Rattle.rules.specs.Law.{Rising, AtLeastAsGood}
-use Rattle.rules.specs.Opening.{top}
 use Rattle.market.specs.Words.{other, price_of, standing}
 use Rattle.sharing.specs.Sharing.{Lawful, Shares, Sharing}
 use Rattle.rules.proofs.Tally.{sum_kept, sum_map, sum_same, sum_two, sum_none, sum_under, all_both, all_of}

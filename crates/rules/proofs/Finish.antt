@@ -14,7 +14,6 @@ use Rattle.market.specs.declared.units.Millis.{Millis}
 use Rattle.rules.specs.Allocation.{fill, taker_rows}
 use Rattle.rules.specs.Calls.{Effect, Ticket, checks, effect, effect_of, finish, finished, withdrawn_row}
 use Rattle.rules.specs.Ledger.{Ledger, named}
-use Rattle.rules.specs.Runs.{after}
 use Rattle.rules.specs.Series.{State, left_under}
 use Rattle.market.specs.Words.{auctioned, departure, in_book, other, same_side, standing}
 use Rattle.sharing.specs.Sharing.{Sharing}

@@ -18,8 +18,7 @@ use Rattle.market.specs.declared.units.Contracts.{Contracts}
 use Rattle.market.specs.declared.units.Millis.{Millis}
 use Rattle.rules.specs.Calls.{Effect, Ticket, at_time, better, bettered, checks, effect, effect_of, improve, new_order, not_its_customer, withdrawn_rows, without_old, wrong_ticket}
 use Rattle.rules.specs.Ledger.{Entry, Ledger, customer_side, customer_size, entries, named}
-use Rattle.rules.specs.Runs.{run}
-use Rattle.rules.specs.Series.{State, competing_order, found, fresh, left_under}
+use Rattle.rules.specs.Series.{State, competing_order, found, left_under}
 use Rattle.market.specs.Words.{auctioned, competing, departure, limit_at, other, standing}
 use Rattle.sharing.specs.Sharing.{Sharing}
 use Rattle.rules.proofs.Tally.{all_both, all_of}

@@ -14,7 +14,7 @@ use Rattle.market.specs.declared.order.Side.TheVariants.{Buy, Sell}
 use Rattle.market.specs.declared.row.Row.{Row}
 use Rattle.market.specs.declared.units.Millis.{Millis}
 use Rattle.rules.specs.Allocation.{after_trade, live}
-use Rattle.rules.specs.Calls.{away, checks, effect, opened, opening}
+use Rattle.rules.specs.Calls.{checks, effect, opened, opening}
 use Rattle.rules.specs.Ledger.{Entry, Ledger, first_of, named}
 use Rattle.rules.specs.Opening.{opened_orders, opening_fill, opening_rows, opening_trade, top, with_limit}
 use Rattle.rules.specs.Series.{State, left_under, on_opening}

@@ -1,8 +1,8 @@
 -- The calls that share nothing keep `Sound`.
-use Rattle.std.proofs.Common.{◌≡◌, ℕ, ◌+◌, ◌-◌, ◌<◌, ◌≤◌, Bool, true, false, cond, not, ◌&&◌, eqb, ltb, leb, List, [], ◌∷◌, ◌++◌, set, Some, None, count_by, Option, sym, refl, ap, ◌∙◌, subst, inl, arith}
+use Rattle.std.proofs.Common.{◌≡◌, ℕ, ◌+◌, ◌-◌, ◌<◌, ◌≤◌, Bool, true, false, cond, not, ◌&&◌, eqb, leb, List, [], ◌∷◌, ◌++◌, set, Some, None, count_by, Option, sym, refl, ap, ◌∙◌, subst, inl, arith}
 use Rattle.std.proofs.lemmas.List.Sums.{sum_by-append}
 use Rattle.std.proofs.ByRecursion.{all_kept_by, all-has, All-append, All-set}
-use Rattle.std.proofs.lemmas.Bool.{eqb-true, eqb-false, ltb-false, leb-true, leb-false, ne_eqb, both_ways, not-false, and_parts, or_parts}
+use Rattle.std.proofs.lemmas.Bool.{eqb-true, leb-true, leb-false, ne_eqb, both_ways, not-false, and_parts, or_parts}
 use Rattle.market.specs.Refusals.{first_hit}
 use Rattle.market.specs.Spans.{on_grid, price_in_span, size_in_span}
 use Rattle.market.specs.declared.auction.Auction.{Auction}

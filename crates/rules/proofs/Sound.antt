@@ -12,7 +12,7 @@ use Rattle.market.specs.declared.row.Row.{Row}
 use Rattle.market.specs.declared.units.Cents.{Cents}
 use Rattle.rules.specs.Allocation.{fill, taker_rows}
 use Rattle.rules.specs.Calls.{opened}
-use Rattle.rules.specs.Law.{Rising, AtLeastAsGood, maker, taker}
+use Rattle.rules.specs.Law.{Rising, AtLeastAsGood, maker}
 use Rattle.rules.specs.Ledger.{Entry, Ledger, contracts_in, named, total_of}
 use Rattle.rules.specs.Opening.{opening_rows, opening_trade, top}
 use Rattle.rules.specs.Prices.{distance, within}

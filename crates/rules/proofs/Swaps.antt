@@ -21,7 +21,7 @@ use Rattle.market.specs.declared.units.Contracts.{Contracts}
 use Rattle.market.specs.declared.units.Millis.{Millis}
 use Rattle.rules.specs.Calls.{at_time, checks, clock, effect, exposure_row, new_order, opened, start, without}
 use Rattle.rules.specs.Ledger.{Entry, Ledger, named}
-use Rattle.rules.specs.Series.{State, due, fresh, left_under}
+use Rattle.rules.specs.Series.{State, due, left_under}
 use Rattle.market.specs.Words.{auctioned, competing, departure, in_book, limit_at, or_else, other, price_of, standing}
 use Rattle.sharing.specs.Sharing.{Sharing}
 use Rattle.rules.proofs.Tally.{sum_none, all_both}

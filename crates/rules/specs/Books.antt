@@ -1,11 +1,10 @@
 -- Worked books, each through the calls themselves.
-use Rattle.std.specs.Prelude.{◌≡◌, ℕ, Bool, true, false, List, [], ◌∷◌, ◌++◌, length, take, replicate, Some, None, Option}
+use Rattle.std.specs.Prelude.{◌≡◌, ℕ, false, List, [], ◌∷◌, ◌++◌, length, take, replicate, Some, None}
 use Rattle.std.specs.List.{AllByRecursion as All}
 use Rattle.market.specs.declared.order.Account.{Account}
 use Rattle.market.specs.declared.order.Account.TheVariants.{Customer, MarketMaker}
 use Rattle.market.specs.declared.order.OrderKind.{OrderKind}
 use Rattle.market.specs.declared.order.OrderKind.TheVariants.{MarketOnOpening}
-use Rattle.market.specs.declared.order.Side.{Side}
 use Rattle.market.specs.declared.order.Side.TheVariants.{Buy, Sell}
 use Rattle.market.specs.declared.row.Row.{Row}
 use Rattle.market.specs.declared.row.RowKind.TheVariants.{Sent, Returned, Withdrawn}

@@ -9,7 +9,7 @@ use Rattle.market.specs.declared.order.OrderKind.{OrderKind}
 use Rattle.market.specs.declared.order.Role.{Role}
 use Rattle.market.specs.declared.order.Role.TheVariants.{Book, Auctioned, Starter, Competing}
 use Rattle.market.specs.declared.order.Side.{Side}
-use Rattle.market.specs.declared.order.Side.TheVariants.{Buy, Sell}
+use Rattle.market.specs.declared.order.Side.TheVariants.{Sell}
 use Rattle.market.specs.declared.row.Row.{Row}
 use Rattle.market.specs.declared.row.RowKind.TheVariants.{Sent, Returned, Withdrawn}
 use Rattle.market.specs.declared.units.Cents.{Cents}
@@ -20,7 +20,7 @@ use Rattle.market.specs.Words.{same_side, other, market_maker, in_book, standing
 use Rattle.rules.specs.Prices.{away_best, bound, reaches, within}
 use Rattle.rules.specs.Allocation.{fill, taker_rows, after_trade, live}
 use Rattle.rules.specs.Opening.{top, opening_rows, opened_orders}
-use Rattle.rules.specs.Series.{State, book_against, national_best, early_or_late, due, exposure_due, something_due, before_end, bad_member, starters_member, off_grid, bad_quote, crossed, book_full, auction_full, numbers_short, found, book_order, replaced, starter_order, on_opening, opens_out_of_range, not_below_best, bad_improvement, not_bettered}
+use Rattle.rules.specs.Series.{State, national_best, early_or_late, due, exposure_due, something_due, before_end, bad_member, starters_member, off_grid, bad_quote, crossed, book_full, auction_full, numbers_short, found, book_order, replaced, starter_order, on_opening, opens_out_of_range, not_below_best, bad_improvement, not_bettered}
 
 -- a ticket as it is shown: its series, its customer's order number, whether it is discharged
 pub record Ticket : Type 0 where

@@ -1,5 +1,5 @@
 -- No sequence of calls can deny an order the best terms on offer: said of calls, answers and rows.
-use Rattle.std.specs.Prelude.{◌≡◌, ℕ, ◌+◌, ◌*◌, ◌<◌, ◌≤◌, min, Bool, true, false, not, ◌&&◌, ◌⊎◌, List, [], ◌∷◌, take, Some, None, sum_by, filter, Option}
+use Rattle.std.specs.Prelude.{◌≡◌, ℕ, ◌+◌, ◌*◌, ◌<◌, ◌≤◌, min, true, not, ◌&&◌, ◌⊎◌, List, [], ◌∷◌, take, Some, None, sum_by, filter, Option}
 use Rattle.std.specs.List.{ContainsAt as Has, AllByRecursion as All}
 use Rattle.market.specs.Refusals.{first_hit}
 use Rattle.market.specs.Spans.{on_grid, price_in_span}
@@ -14,7 +14,7 @@ use Rattle.rules.specs.Prices.{far_off, away_best, bound, within}
 use Rattle.rules.specs.Volume.{willing, matched_volume, surplus}
 use Rattle.rules.specs.Series.{State}
 use Rattle.rules.specs.Calls.{Call, place, withdraw, away, opening, enter, clock, start, improve, better, finish, checks}
-use Rattle.rules.specs.Runs.{Answer, refused, accepted, Event, event, after, lent, handed_back, Question, ask_left, Reply, contracts_left, reply, Day, step, run}
+use Rattle.rules.specs.Runs.{refused, accepted, Event, event, after, lent, handed_back, ask_left, contracts_left, reply, Day, step, run}
 use Rattle.rules.specs.Ledger.{Entry, Ledger, ledger, number_at, named, balance, stands, of_entry, t_rows, contracts_in, total_of}
 
 -- ---- the best opening

@@ -2,7 +2,7 @@
 use Rattle.std.specs.Prelude.{ℕ, ◌-◌, ◌*◌, Bool, true, false, cond, not, ◌&&◌, ◌||◌, List, [], ◌∷◌, ◌++◌, take, Some, None, sum_by, filter, Option, ◌==◌, slice_index, slice_set}
 use Rattle.market.specs.declared.order.Account.{Account}
 use Rattle.market.specs.declared.order.Side.{Side}
-use Rattle.market.specs.declared.order.Side.TheVariants.{Buy, Sell}
+use Rattle.market.specs.declared.order.Side.TheVariants.{Buy}
 use Rattle.market.specs.declared.quote.Quote.{Quote}
 use Rattle.market.specs.declared.row.Row.{Row}
 use Rattle.market.specs.Words.{other, market_maker, limit_of, or_else, is_trade}
@@ -10,7 +10,7 @@ use Rattle.rules.specs.Prices.{away_best, reaches}
 use Rattle.rules.specs.Volume.{Interest}
 use Rattle.rules.specs.Series.{no_quotes}
 use Rattle.rules.specs.Calls.{Call, place, withdraw, away, opening, enter, clock, start, improve, better, finish}
-use Rattle.rules.specs.Runs.{Answer, refused, accepted, Event}
+use Rattle.rules.specs.Runs.{refused, accepted, Event}
 
 -- an order as its call entered it; Market-on-Opening has no price of its own
 pub record Entry : Type 0 where

@@ -8,7 +8,7 @@ use Rattle.market.specs.declared.order.Side.{Side}
 use Rattle.market.specs.declared.order.Side.TheVariants.{Buy, Sell}
 use Rattle.market.specs.declared.row.Row.{Row}
 use Rattle.sharing.specs.Sharing.{Sharing}
-use Rattle.market.specs.Words.{standing, trade, limit_at}
+use Rattle.market.specs.Words.{trade, limit_at}
 use Rattle.rules.specs.Prices.{far_off}
 use Rattle.rules.specs.Volume.{willing, matched_volume, surplus, of_order}
 use Rattle.rules.specs.Allocation.{fill, by_priority, after_trade, live}

@@ -1,6 +1,6 @@
 -- One series: what it holds, and the conditions by which it turns a call away.
 use Rattle.std.specs.Prelude.{ℕ, ◌+◌, Bool, true, false, cond, not, ◌&&◌, ◌||◌, List, [], ◌∷◌, map, Some, None, sum_by, count_by, filter, Option, ◌==◌, nat_eq, nat_le, nat_lt}
-use Rattle.market.specs.Spans.{on_grid, price_in_span, size_in_span}
+use Rattle.market.specs.Spans.{on_grid, price_in_span}
 use Rattle.market.specs.declared.auction.Auction.{Auction}
 use Rattle.market.specs.declared.order.Order.{Order}
 use Rattle.market.specs.declared.order.OrderKind.{OrderKind}

@@ -1,13 +1,12 @@
 -- Wrong hosts, each of which breaks one part of the law: their events are told as a journal tells them.
-use Rattle.std.specs.Prelude.{ℕ, Bool, true, false, List, [], ◌∷◌, Some, None, Option}
+use Rattle.std.specs.Prelude.{ℕ, false, List, [], ◌∷◌, Some, None, Option}
 use Rattle.market.specs.declared.order.Account.TheVariants.{Customer}
 use Rattle.market.specs.declared.order.Side.TheVariants.{Buy, Sell}
 use Rattle.market.specs.declared.row.Row.{Row}
-use Rattle.market.specs.declared.row.RowKind.TheVariants.{Withdrawn}
 use Rattle.sharing.specs.Time.{time_with_guarantee}
-use Rattle.market.specs.Words.{limit_at, trade, departure}
+use Rattle.market.specs.Words.{limit_at, trade}
 use Rattle.rules.specs.Series.{fresh}
-use Rattle.rules.specs.Calls.{Ticket, Call, opening, enter, start, improve, finish}
+use Rattle.rules.specs.Calls.{Ticket, Call, enter, start, improve, finish}
 use Rattle.rules.specs.Runs.{accepted, Event, nothing, Day, run}
 use Rattle.rules.specs.Ledger.{Ledger, ledger}
 use Rattle.rules.specs.Law.{FairEvent, Conserved, Numbered}
