@@ -52,12 +52,12 @@ fn take_with<R: SharingRule>(
     requires out_fits { length orders.now ≤ length out.old }
     requires amounts { taker.taking.amount.count ≤ 1599840 }
     requires guarantees { taker.taking.guarantee.count ≤ 9999 }
-    ensures counted { result.rows ≡ length (trades_of (shared rule.now) orders.now (passes filter) taker) }
-    ensures written { rows.new ≡ trades_of (shared rule.now) orders.now (passes filter) taker ++ drop result.rows rows.old }
+    ensures counted { result.rows ≡ length (trades_of (R.shared rule.now) orders.now (passes filter) taker) }
+    ensures written { rows.new ≡ trades_of (R.shared rule.now) orders.now (passes filter) taker ++ drop result.rows rows.old }
     ensures few { result.rows ≤ 160 }
-    ensures left { take result.orders out.new ≡ left_of (shared rule.now) orders.now (passes filter) taker }
+    ensures left { take result.orders out.new ≡ left_of (R.shared rule.now) orders.now (passes filter) taker }
     ensures fewer { result.orders ≤ length orders.now }
-    ensures traded { result.traded.count ≡ sum_by (taker_fill (shared rule.now) orders.now (passes filter) taker) (kept_by (passes filter) orders.now) }
+    ensures traded { result.traded.count ≡ sum_by (taker_fill (R.shared rule.now) orders.now (passes filter) taker) (kept_by (passes filter) orders.now) }
 {
     let n = orders.len();
     let start = allocate(rule, orders, filter, taker.taking, ranked, shares);
@@ -92,12 +92,12 @@ pub fn take<R: SharingRule>(
     requires out_fits { length orders.now ≤ length out.old }
     requires amounts { taker.taking.amount.count ≤ 1599840 }
     requires guarantees { taker.taking.guarantee.count ≤ 9999 }
-    ensures counted { result.rows ≡ length (trades_of (shared rule.now) orders.now (passes filter) taker) }
-    ensures written { rows.new ≡ trades_of (shared rule.now) orders.now (passes filter) taker ++ drop result.rows rows.old }
+    ensures counted { result.rows ≡ length (trades_of (R.shared rule.now) orders.now (passes filter) taker) }
+    ensures written { rows.new ≡ trades_of (R.shared rule.now) orders.now (passes filter) taker ++ drop result.rows rows.old }
     ensures few { result.rows ≤ 160 }
-    ensures left { take result.orders out.new ≡ left_of (shared rule.now) orders.now (passes filter) taker }
+    ensures left { take result.orders out.new ≡ left_of (R.shared rule.now) orders.now (passes filter) taker }
     ensures fewer { result.orders ≤ length orders.now }
-    ensures traded { result.traded.count ≡ sum_by (taker_fill (shared rule.now) orders.now (passes filter) taker) (kept_by (passes filter) orders.now) }
+    ensures traded { result.traded.count ≡ sum_by (taker_fill (R.shared rule.now) orders.now (passes filter) taker) (kept_by (passes filter) orders.now) }
 {
     let n = orders.len();
     let mut ranked = rank_room();

@@ -4,20 +4,20 @@ use Rattle.std.proofs.lemmas.List.{append-nil, drop_all, drop_at, length-drop, l
 use Rattle.sharing.specs.Asked.{counts}
 use Rattle.book.proofs.allocation.allocate.Goals as goal
 
-pub allocate-ranked-requires : goal.allocate-ranked-requires
-allocate-ranked-requires g c =
+pub allocate_ranked-requires : goal.allocate_ranked-requires
+allocate_ranked-requires g c =
     let n = length c.args.orders.now in
     let start = c.rank-start.result in
     let out = c.rank-start.new.out in
     let within = c.rank-start.ensures.within in
     let kept = c.rank-start.auto.out in
     record {
-      ranking = take_all (n - start) (drop start out) (omega (arith, length-drop start out, c.requires.ranked-fit)) ∙ c.rank-start.ensures.ranked;
+      ranking = take_all (n - start) (drop start out) (omega (arith, length-drop start out, c.requires.ranked_fit)) ∙ c.rank-start.ensures.ranked;
       rising = c.requires.rising;
       small = c.requires.small;
       few = c.requires.few;
-      claims-fit = search rules;
-      shares-fit = search rules;
+      claims_fit = search rules;
+      shares_fit = search rules;
       amounts = c.requires.amounts;
       guarantees = c.requires.guarantees;
     }
@@ -27,9 +27,9 @@ returns g c =
     let n = length c.args.orders.now in
     let start = c.rank-start.result in
     let old = c.args.shares.now in
-    let new = c.allocate-ranked.new.shares in
+    let new = c.allocate_ranked.new.shares in
     let within = c.rank-start.ensures.within in
-    let fit = c.requires.shares-fit in
+    let fit = c.requires.shares_fit in
     let written : drop start (put_mid start (n - start) old new) ≡ new =
     drop_at (take start old) (new ++ drop (n - start) (drop start old)) start (length-take-le start old (omega arith))
     ∙ ap (λ zs. new ++ zs) (drop_all (n - start) (drop start old) (omega (arith, length-drop start old)))
@@ -37,5 +37,5 @@ returns g c =
     record {
       within = within;
       ranked = c.rank-start.ensures.ranked;
-      shares = ap counts written ∙ c.allocate-ranked.ensures;
+      shares = ap counts written ∙ c.allocate_ranked.ensures;
     }

@@ -13,8 +13,8 @@ use Rattle.book.proofs.opening_price.tried_limits.Goals as goal
 pub loop-step-init : goal.loop-step-init
 loop-step-init c = tried_none c.args.opening.now c.args.search c.requires.sound
 
-pub tried-around-best-requires : goal.tried-around-best-requires
-tried-around-best-requires c =
+pub tried_around-best-requires : goal.tried_around-best-requires
+tried_around-best-requires c =
     let l = c.args.ladder.now in
     let e = part l (omega arith) c.requires.inside in
     record {
@@ -28,8 +28,8 @@ loop-step-preserved c =
     let l = c.args.ladder.now in
     let i = c.args.opening.now in
     let xs = mid_of l.first (161 - l.first) l.steps in
-    let more = tried_then i c.args.search c.loop-step.best c.tried-around-best.result _ _ c.loop-step.invariant c.tried-around-best.ensures in
-    subst (λ (cs : List ℕ). Tried i c.args.search c.tried-around-best.result cs) (around_more xs c.loop-step.step-index c.loop-step-test.true) more
+    let more = tried_then i c.args.search c.loop-step.best c.tried_around-best.result _ _ c.loop-step.invariant c.tried_around-best.ensures in
+    subst (λ (cs : List ℕ). Tried i c.args.search c.tried_around-best.result cs) (around_more xs c.loop-step.step-index c.loop-step-test.true) more
 
 pub returns : goal.returns
 returns c =

@@ -8,8 +8,8 @@ use Rattle.book.proofs.Trades.{no_contracts, trading_one, trading_no, trading_al
 use Rattle.book.proofs.rows.write_trades.Goals as goal
 use Rattle.book.proofs.rows.write_trades.Goals.{then-contracts-gt0, else-contracts-gt0}
 
-pub offset-bounds-orders-r : goal.offset-bounds-orders-r
-offset-bounds-orders-r c =
+pub offset_bounds-orders-r : goal.offset_bounds-orders-r
+offset_bounds-orders-r c =
     let inside = All-get_or (λ r. r.place < length c.args.orders.now) c.args.ranked.now c.loop-i.i no_rank (omega arith) c.requires.places in
     search rules
 

@@ -2,13 +2,12 @@ use Rattle.std.proofs.Common.{◌+◌, sum_by, filter, sym, ap, ◌∙◌, arith
 use Rattle.std.proofs.lemmas.List.{take_all}
 use Rattle.market.specs.Words.{standing}
 use Rattle.book.specs.Filters.{passes}
-use Rattle.book.specs.Places.{no_order}
 use Rattle.book.proofs.Walks.{kept_sum_yes, kept_sum_no, kept_sum_small}
 use Rattle.book.proofs.select.volume.Goals as goal
 use Rattle.book.proofs.select.volume.Goals.{then-passes, else-passes}
 
-pub overflow-add-sum : goal.overflow-add-sum
-overflow-add-sum c =
+pub overflow_add-sum : goal.overflow_add-sum
+overflow_add-sum c =
     let l = c.loop-order in
     let os = c.args.orders.now in
     let p = passes c.args.filter in

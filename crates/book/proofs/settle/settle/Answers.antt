@@ -11,8 +11,8 @@ use Rattle.book.proofs.Settling.{settles_some, settles_none, settles_all}
 use Rattle.book.proofs.settle.settle.Goals as goal
 use Rattle.book.proofs.settle.settle.Goals.{then-after-gt0, else-after-gt0}
 
-pub take-fill-after-requires : goal.take-fill-after-requires
-take-fill-after-requires c =
+pub take_fill-after-requires : goal.take_fill-after-requires
+take_fill-after-requires c =
     let a = c.args in
     let i = c.loop-i.i in
     let lt = c.loop-i-test.true in
@@ -25,16 +25,16 @@ pub loop-i-preserved : goal.loop-i-preserved
 loop-i-preserved c =
     let a = c.args in
     let l = c.loop-i in
-    let x = c.take-fill-after.result in
+    let x = c.take_fill-after.result in
     let room = c.requires.room in
     let behind = l.invariant.behind in
     elim c.if-after-gt0.branch [
       | then-after-gt0 w ↦
           rw (w.out-is, w.count-is)
-          (settles_some (passes a.filter) a.orders.now a.fills.now c.requires.even l.out l.count l.i l.invariant c.loop-i-test.true x c.take-fill-after.ensures (lt-ltb 0 (standing x) w.if-after-gt0.true) (omega arith))
+          (settles_some (passes a.filter) a.orders.now a.fills.now c.requires.even l.out l.count l.i l.invariant c.loop-i-test.true x c.take_fill-after.ensures (lt-ltb 0 (standing x) w.if-after-gt0.true) (omega arith))
       | else-after-gt0 w ↦
           rw (w.out-is, w.count-is)
-          (settles_none (passes a.filter) a.orders.now a.fills.now c.requires.even l.out l.count l.i l.invariant c.loop-i-test.true x c.take-fill-after.ensures (le-ltb 0 (standing x) w.if-after-gt0.false))
+          (settles_none (passes a.filter) a.orders.now a.fills.now c.requires.even l.out l.count l.i l.invariant c.loop-i-test.true x c.take_fill-after.ensures (le-ltb 0 (standing x) w.if-after-gt0.false))
     ]
 
 pub returns : goal.returns

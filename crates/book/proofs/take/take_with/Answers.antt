@@ -1,23 +1,11 @@
-use Rattle.std.proofs.Common.{◌≡◌, ℕ, ◌-◌, ◌<◌, ◌≤◌, min, Bool, List, ◌++◌, map, length, take, drop, sum_by, filter, sym, ap, ◌∙◌, subst, arith, rules}
+use Rattle.std.proofs.Common.{◌≡◌, ℕ, ◌-◌, ◌<◌, min, ◌++◌, map, length, take, drop, filter, sym, ap, ◌∙◌, subst, arith, rules}
 use Rattle.std.specs.List.{AllByRecursion as All}
-use Rattle.std.proofs.ByRecursion.{all_kept_by}
-use Rattle.std.proofs.lemmas.List.{length-drop, length-map, length-take, take_all}
-use Rattle.market.specs.Words.{standing}
 use Rattle.market.specs.declared.order.Order.{Order}
-use Rattle.market.specs.declared.units.Contracts.{Contracts}
 use Rattle.rules.specs.Allocation.{by_priority, fill}
 use Rattle.rules.proofs.Fills.{fill_within, fill_whole}
-use Rattle.rules.proofs.Matching.{rising_kept}
-use Rattle.rules.proofs.Sound.{Lot}
 use Rattle.sharing.specs.Asked.{counts}
-use Rattle.sharing.specs.Sharing.{Sharing, Lawful}
-use Rattle.sharing.proofs.Counts.{length_counts}
 use Rattle.book.specs.Filters.{passes}
-use Rattle.book.specs.Places.{at, orders_at}
 use Rattle.book.specs.Ranking.{by_rank, ranked_from}
-use Rattle.book.specs.Records.{Live}
-use Rattle.book.specs.Rows.{trade_rows}
-use Rattle.book.specs.Settling.{scattered, settled}
 use Rattle.book.specs.declared.priority.Ranked.{Ranked}
 use Rattle.book.proofs.Records.{live_small, rising_from}
 use Rattle.book.proofs.Scattering.{places_inside}
@@ -30,20 +18,20 @@ allocate-start-requires g c = record {
   small = live_small c.args.orders.now 65536 c.requires.live;
   long = c.requires.live.few;
   few = c.requires.few;
-  ranked-fit = c.requires.ranked-fit;
-  shares-fit = c.requires.shares-fit;
+  ranked_fit = c.requires.ranked_fit;
+  shares_fit = c.requires.shares_fit;
   amounts = c.requires.amounts;
   guarantees = c.requires.guarantees;
 }
 
-pub write-trades-count-requires : goal.write-trades-count-requires
-write-trades-count-requires g c =
+pub write_trades-count-requires : goal.write_trades-count-requires
+write_trades-count-requires g c =
     let os = c.args.orders.now in
     let p = passes c.args.filter in
     let n = length os in
     let start = c.allocate-start.result in
     let rk = c.allocate-start.new.ranked in
-    let ranks : take (n - start) (drop start rk) ≡ by_rank (ranked_from p 0 os) = rest_is rk start n (omega (arith, c.requires.ranked-fit, c.allocate-start.auto.ranked)) ∙ c.allocate-start.ensures.ranked in
+    let ranks : take (n - start) (drop start rk) ≡ by_rank (ranked_from p 0 os) = rest_is rk start n (omega (arith, c.requires.ranked_fit, c.allocate-start.auto.ranked)) ∙ c.allocate-start.ensures.ranked in
     record {
       places = subst (All (λ (r : Ranked). r.place < n)) (sym ranks) (places_inside p os n (omega arith));
       even = search rules;
@@ -57,9 +45,9 @@ scatter-requires g c =
     let n = length os in
     let start = c.allocate-start.result in
     let rk = c.allocate-start.new.ranked in
-    let ranks : take (n - start) (drop start rk) ≡ by_rank (ranked_from p 0 os) = rest_is rk start n (omega (arith, c.requires.ranked-fit, c.allocate-start.auto.ranked)) ∙ c.allocate-start.ensures.ranked in
+    let ranks : take (n - start) (drop start rk) ≡ by_rank (ranked_from p 0 os) = rest_is rk start n (omega (arith, c.requires.ranked_fit, c.allocate-start.auto.ranked)) ∙ c.allocate-start.ensures.ranked in
     record {
-      places = subst (All (λ (r : Ranked). r.place < length c.args.fills.now)) (sym ranks) (places_inside p os (length c.args.fills.now) (omega (arith, c.requires.fills-fit)));
+      places = subst (All (λ (r : Ranked). r.place < length c.args.fills.now)) (sym ranks) (places_inside p os (length c.args.fills.now) (omega (arith, c.requires.fills_fit)));
       even = search rules;
     }
 
@@ -75,13 +63,13 @@ settle-requires g c =
     let t = a.taker.taking in
     let rule = g.R.SharingRule.shared a.rule.now in
     let f : Order → ℕ = fill rule (filter p os) t.amount.count t.marked t.guarantee.count in
-    let ranks : take (n - start) (drop start rk) ≡ by_rank (ranked_from p 0 os) = rest_is rk start n (omega (arith, c.requires.ranked-fit, c.allocate-start.auto.ranked)) ∙ c.allocate-start.ensures.ranked in
-    let shares : counts (take (n - start) (drop start sh)) ≡ map f (by_priority (filter p os)) = ap counts (rest_is sh start n (omega (arith, c.requires.shares-fit, c.allocate-start.auto.shares))) ∙ c.allocate-start.ensures.shares in
+    let ranks : take (n - start) (drop start rk) ≡ by_rank (ranked_from p 0 os) = rest_is rk start n (omega (arith, c.requires.ranked_fit, c.allocate-start.auto.ranked)) ∙ c.allocate-start.ensures.ranked in
+    let shares : counts (take (n - start) (drop start sh)) ≡ map f (by_priority (filter p os)) = ap counts (rest_is sh start n (omega (arith, c.requires.shares_fit, c.allocate-start.auto.shares))) ∙ c.allocate-start.ensures.shares in
     record {
-      even = omega (arith, c.requires.fills-fit, c.scatter.auto.fills);
-      room = c.requires.out-fits;
+      even = omega (arith, c.requires.fills_fit, c.scatter.auto.fills);
+      room = c.requires.out_fits;
       sound = c.requires.live.sound;
-      covered = covered p f os (take (n - start) (drop start rk)) (take (n - start) (drop start sh)) ranks shares a.fills.now c.scatter.new.fills c.requires.fills-fit c.scatter.ensures
+      covered = covered p f os (take (n - start) (drop start rk)) (take (n - start) (drop start sh)) ranks shares a.fills.now c.scatter.new.fills c.requires.fills_fit c.scatter.ensures
           (fill_within rule (g.met.R.SharingRule.lawful a.rule.now) (filter p os) t.amount.count t.marked t.guarantee.count (lot_passing p os c.requires.live c.requires.few) c.requires.amounts c.requires.guarantees);
     }
 
@@ -100,17 +88,17 @@ returns g c =
     let t = a.taker.taking in
     let rule = g.R.SharingRule.shared a.rule.now in
     let f : Order → ℕ = fill rule (filter p os) t.amount.count t.marked t.guarantee.count in
-    let ranks : take (n - start) (drop start rk) ≡ by_rank (ranked_from p 0 os) = rest_is rk start n (omega (arith, c.requires.ranked-fit, c.allocate-start.auto.ranked)) ∙ c.allocate-start.ensures.ranked in
-    let shares : counts (take (n - start) (drop start sh)) ≡ map f (by_priority (filter p os)) = ap counts (rest_is sh start n (omega (arith, c.requires.shares-fit, c.allocate-start.auto.shares))) ∙ c.allocate-start.ensures.shares in
+    let ranks : take (n - start) (drop start rk) ≡ by_rank (ranked_from p 0 os) = rest_is rk start n (omega (arith, c.requires.ranked_fit, c.allocate-start.auto.ranked)) ∙ c.allocate-start.ensures.ranked in
+    let shares : counts (take (n - start) (drop start sh)) ≡ map f (by_priority (filter p os)) = ap counts (rest_is sh start n (omega (arith, c.requires.shares_fit, c.allocate-start.auto.shares))) ∙ c.allocate-start.ensures.shares in
     let part = take (n - start) (drop start rk) in
     let given-shares = take (n - start) (drop start sh) in
     let rows = rows_are p f os part given-shares ranks shares a.taker.side a.taker.number in
     let whole = fill_whole rule (g.met.R.SharingRule.lawful a.rule.now) (filter p os) t.amount.count t.marked t.guarantee.count (lot_passing p os c.requires.live c.requires.few) c.requires.amounts c.requires.guarantees in
     record {
-      counted = c.write-trades-count.ensures.counted ∙ ap length rows;
-      written = c.write-trades-count.ensures.written ∙ ap (λ rs. rs ++ drop c.write-trades-count.result a.rows.now) rows;
-      few = omega (arith, c.write-trades-count.ensures.few, ap length ranks, ranks_few p os, c.requires.few);
-      left = c.settle.ensures.front ∙ left_is p f os part given-shares ranks shares a.fills.now c.scatter.new.fills c.requires.fills-fit c.scatter.ensures;
+      counted = c.write_trades-count.ensures.counted ∙ ap length rows;
+      written = c.write_trades-count.ensures.written ∙ ap (λ rs. rs ++ drop c.write_trades-count.result a.rows.now) rows;
+      few = omega (arith, c.write_trades-count.ensures.few, ap length ranks, ranks_few p os, c.requires.few);
+      left = c.settle.ensures.front ∙ left_is p f os part given-shares ranks shares a.fills.now c.scatter.new.fills c.requires.fills_fit c.scatter.ensures;
       fewer = c.settle.ensures.few;
       traded = c.min.ensures ∙ ap (min t.amount.count) c.volume.ensures ∙ sym whole;
     }
