@@ -40,7 +40,7 @@ fn expect<R: SharingRule>(
 
 // The rule refuses the input by 7, and leaves the shares as they were.
 fn expect_refusal<R: SharingRule>(
-    rt: &HostRuntime,
+    rt: &(impl Abort + AllocGlobal),
     rule: &R,
     claims: &[u32],
     amount: u32,
@@ -57,8 +57,8 @@ fn expect_refusal<R: SharingRule>(
         Contracts { count: guarantee },
         &mut shares,
     );
-    assert_eq!(answer, Err(Refusal::OutOfBounds));
-    assert_eq!(shares, vec![in rt.alloc(); before; places]?);
+    assert_eq!(rt; answer, Err(Refusal::OutOfBounds));
+    assert_eq!(rt; shares, vec![in rt.alloc(); before; places]?);
     Ok(())
 }
 
@@ -123,7 +123,10 @@ fn most_and_largest_claims(rt: HostRuntime) -> Result<(), Fail> {
     expect(&rt, &ProRata, &claims, 1_599_839, None, 0, &short)
 }
 
-fn expect_refusals<R: SharingRule>(rt: &HostRuntime, rule: &R) -> Result<(), Fail> {
+fn expect_refusals<R: SharingRule>(
+    rt: &(impl Abort + AllocGlobal),
+    rule: &R,
+) -> Result<(), Fail> {
     expect_refusal(rt, rule, &[1; 161], 1, 0, 161)?;
     expect_refusal(rt, rule, &[5, 10_000], 1, 0, 2)?;
     expect_refusal(rt, rule, &[5, 5], 1_599_841, 0, 2)?;
