@@ -12,12 +12,12 @@ allocate-ranked-requires g c =
     let within = c.rank-start.ensures.within in
     let kept = c.rank-start.auto.out in
     record {
-      ranking = take_all (n - start) (drop start out) (omega (arith, length-drop start out, c.requires.ranked-fit)) ∙ c.rank-start.ensures.ranked;
+      ranking = take_all (n - start) (drop start out) (omega (arith, length-drop start out, c.requires.ranked_fit)) ∙ c.rank-start.ensures.ranked;
       rising = c.requires.rising;
       small = c.requires.small;
       few = c.requires.few;
-      claims-fit = search rules;
-      shares-fit = search rules;
+      claims_fit = search rules;
+      shares_fit = search rules;
       amounts = c.requires.amounts;
       guarantees = c.requires.guarantees;
     }
@@ -32,5 +32,5 @@ returns g c =
     record {
       within = within;
       ranked = c.rank-start.ensures.ranked;
-      shares = ap counts (rest_written old new start n within c.requires.shares-fit) ∙ c.allocate-ranked.ensures;
+      shares = ap counts (rest_written old new start n within c.requires.shares_fit) ∙ c.allocate-ranked.ensures;
     }

@@ -49,7 +49,7 @@ sum-of-ahead-requires g c =
     }
 
 -- one level more
-level_more : (g : given.Over) (c : goal.After-struct-known·1 g) →
+level_more : (g : given.Over) (c : goal.After-struct_known-1 g) →
     Allocating (g.R.SharingRule.shared c.args.rule.now) (orders_at c.args.orders.now c.args.ranked.now) c.args.taking.amount.count c.args.taking.marked c.args.taking.guarantee.count
     (put_mid c.loop-start.start (c.level-end-end.result - c.loop-start.start) c.loop-start.shares c.share-level.new.shares) c.level-end-end.result (c.loop-start.ahead + c.sum-of-ahead.result.count)
 level_more g c =
@@ -68,7 +68,7 @@ level_more g c =
     let claimed = part_claimed os rs a.claims.now c.requires.claimed l.start n ∙ ap (map standing) same in
     let lev : Level ys l.start to = level_found os rs c.requires.ranks l.start to es.after within es.same es.apart (l.invariant.first (omega (arith, length-map rs (at os), c.loop-start-test.true))) in
     allocating_more rule ys a.taking.amount.count a.taking.marked gu c.requires.sorted c.requires.rising l.start to lev l.shares c.share-level.new.shares l.ahead c.sum-of-ahead.result.count l.invariant
-    (omega (arith, c.share-level.auto.shares, length-take n (drop l.start l.shares), length-drop l.start l.shares, l.auto.shares, c.requires.shares-fit))
+    (omega (arith, c.share-level.auto.shares, length-take n (drop l.start l.shares), length-drop l.start l.shares, l.auto.shares, c.requires.shares_fit))
     (c.share-level.ensures ∙ (λ i. rule (claimed i) (c.saturating-sub.ensures i) (mark_among a.taking.marked (same i)) gu))
     (c.sum-of-ahead.ensures ∙ part_held os rs a.claims.now c.requires.claimed l.start n)
 

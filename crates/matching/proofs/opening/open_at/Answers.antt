@@ -27,11 +27,11 @@ write-opening-count-requires g c =
     record {
       live = live_upto os a.table.now.next c.live.ensures.kept;
       few = omega (arith, same, b.claims);
-      ranked-fit = search rules;
-      shares-fit = search rules;
-      buyers-fit = search rules;
-      sellers-fit = search rules;
-      fills-fit = search rules;
+      ranked_fit = search rules;
+      shares_fit = search rules;
+      buyers_fit = search rules;
+      sellers_fit = search rules;
+      fills_fit = search rules;
       rows_fit = omega (arith, same, b.rows_fit);
       opens = c.matched_volume.ensures ∙ ap (λ (xs : List Order). matched_volume of_order xs p) (sym c.live.ensures.is);
     }

@@ -19,10 +19,10 @@ fill-side-first-buyer-requires g c =
     record {
       live = c.requires.live;
       few = omega (arith, each_few (wills Buy p) os, c.requires.few);
-      ranked-fit = c.requires.ranked-fit;
-      shares-fit = c.requires.shares-fit;
-      traders-fit = c.requires.buyers-fit;
-      fills-fit = c.requires.fills-fit;
+      ranked_fit = c.requires.ranked_fit;
+      shares_fit = c.requires.shares_fit;
+      traders_fit = c.requires.buyers_fit;
+      fills_fit = c.requires.fills_fit;
       opens = c.requires.opens;
       amounts = omega (arith, c.requires.opens, matched_small os p c.requires.live c.requires.few);
     }
@@ -35,10 +35,10 @@ fill-side-first-seller-requires g c =
     record {
       live = c.requires.live;
       few = omega (arith, each_few (wills Sell p) os, c.requires.few);
-      ranked-fit = omega (arith, c.requires.ranked-fit, k.ranked);
-      shares-fit = omega (arith, c.requires.shares-fit, k.shares);
-      traders-fit = c.requires.sellers-fit;
-      fills-fit = omega (arith, c.requires.fills-fit, k.fills);
+      ranked_fit = omega (arith, c.requires.ranked_fit, k.ranked);
+      shares_fit = omega (arith, c.requires.shares_fit, k.shares);
+      traders_fit = c.requires.sellers_fit;
+      fills_fit = omega (arith, c.requires.fills_fit, k.fills);
       opens = c.requires.opens;
       amounts = omega (arith, c.requires.opens, matched_small os p c.requires.live c.requires.few);
     }
@@ -54,8 +54,8 @@ pair-requires g c =
     let ss = c.fill-side-first-seller.new.traders in
     let b = c.fill-side-first-buyer.result in
     let s = c.fill-side-first-seller.result in
-    let buyers : map filled_pair (take (n - b) (drop b bs)) ≡ filled rule os p Buy = ap (map filled_pair) (rest_is bs b n (omega (arith, c.requires.buyers-fit, c.fill-side-first-buyer.auto.traders))) ∙ c.fill-side-first-buyer.ensures.listed in
-    let sellers : map filled_pair (take (n - s) (drop s ss)) ≡ filled rule os p Sell = ap (map filled_pair) (rest_is ss s n (omega (arith, c.requires.sellers-fit, c.fill-side-first-seller.auto.traders))) ∙ c.fill-side-first-seller.ensures.listed in
+    let buyers : map filled_pair (take (n - b) (drop b bs)) ≡ filled rule os p Buy = ap (map filled_pair) (rest_is bs b n (omega (arith, c.requires.buyers_fit, c.fill-side-first-buyer.auto.traders))) ∙ c.fill-side-first-buyer.ensures.listed in
+    let sellers : map filled_pair (take (n - s) (drop s ss)) ≡ filled rule os p Sell = ap (map filled_pair) (rest_is ss s n (omega (arith, c.requires.sellers_fit, c.fill-side-first-seller.auto.traders))) ∙ c.fill-side-first-seller.ensures.listed in
     let nb : length (take (n - b) (drop b bs)) ≡ length (filter (wills Buy p) os) = sym (length-map (take (n - b) (drop b bs)) filled_pair) ∙ ap length buyers ∙ filled_few rule os p Buy in
     let ns : length (take (n - s) (drop s ss)) ≡ length (filter (wills Sell p) os) = sym (length-map (take (n - s) (drop s ss)) filled_pair) ∙ ap length sellers ∙ filled_few rule os p Sell in
     omega (arith, nb, ns, both_few p os, c.requires.rows_fit)
@@ -71,8 +71,8 @@ returns g c =
     let ss = c.fill-side-first-seller.new.traders in
     let b = c.fill-side-first-buyer.result in
     let s = c.fill-side-first-seller.result in
-    let buyers : map filled_pair (take (n - b) (drop b bs)) ≡ filled rule os p Buy = ap (map filled_pair) (rest_is bs b n (omega (arith, c.requires.buyers-fit, c.fill-side-first-buyer.auto.traders))) ∙ c.fill-side-first-buyer.ensures.listed in
-    let sellers : map filled_pair (take (n - s) (drop s ss)) ≡ filled rule os p Sell = ap (map filled_pair) (rest_is ss s n (omega (arith, c.requires.sellers-fit, c.fill-side-first-seller.auto.traders))) ∙ c.fill-side-first-seller.ensures.listed in
+    let buyers : map filled_pair (take (n - b) (drop b bs)) ≡ filled rule os p Buy = ap (map filled_pair) (rest_is bs b n (omega (arith, c.requires.buyers_fit, c.fill-side-first-buyer.auto.traders))) ∙ c.fill-side-first-buyer.ensures.listed in
+    let sellers : map filled_pair (take (n - s) (drop s ss)) ≡ filled rule os p Sell = ap (map filled_pair) (rest_is ss s n (omega (arith, c.requires.sellers_fit, c.fill-side-first-seller.auto.traders))) ∙ c.fill-side-first-seller.ensures.listed in
     let rows : pairing_rows p (take (n - b) (drop b bs)) (take (n - s) (drop s ss)) ≡ opening_rows rule os p = (λ i. paired p (intervals 0 (buyers i)) (intervals 0 (sellers i))) in
     record {
       counted = c.pair.ensures.counted ∙ ap length rows;

@@ -26,9 +26,9 @@ write-takings-count-requires g c =
     record {
       live = live_upto os a.table.now.next c.live-2.ensures.kept;
       few = omega (arith, length-filter p os, same, b.claims);
-      ranked-fit = search rules;
-      shares-fit = search rules;
-      fills-fit = search rules;
+      ranked_fit = search rules;
+      shares_fit = search rules;
+      fills_fit = search rules;
       rows_fit = omega (arith, length-filter p os, same, b.rows_fit);
       amounts = b.amounts;
       guarantees = b.guarantees;
