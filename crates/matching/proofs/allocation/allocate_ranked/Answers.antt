@@ -21,8 +21,8 @@ claim-requires g c =
     let ranks = subst (All (TrueRank os)) (sym c.requires.ranking) (ranks_true (passes c.args.filter) os) in
     record { places = All-weaker (TrueRank os) (λ r. r.place < length os) (λ r t. t.inside) c.args.ranked.now ranks; even = c.requires.claims_fit }
 
-pub share-levels-requires : goal.share-levels-requires
-share-levels-requires g c =
+pub share_levels-requires : goal.share_levels-requires
+share_levels-requires g c =
     let os = c.args.orders.now in
     let rs = c.args.ranked.now in
     let p = passes c.args.filter in
@@ -50,7 +50,7 @@ returns g c =
     let k = filter p os in
     let stand : orders_at os a.ranked.now ≡ by_priority k = ap (orders_at os) c.requires.ranking ∙ ranked_stand p os in
     let f : List Order → Order → ℕ = λ ys. fill (g.R.SharingRule.shared a.rule.now) ys a.taking.amount.count a.taking.marked a.taking.guarantee.count in
-    c.share-levels.ensures
+    c.share_levels.ensures
     ∙ (λ i. map (f (stand i)) (stand i))
     ∙ map_same (f (by_priority k)) (f k) (by_priority k)
     (all_of (λ o. f (by_priority k) o ≡ f k o) (by_priority k) (λ o. fill_sorted (g.R.SharingRule.shared a.rule.now) k a.taking.amount.count a.taking.marked a.taking.guarantee.count o))

@@ -31,8 +31,8 @@ allocate-start-requires g c = record {
   guarantees = omega arith;
 }
 
-pub list-fills-requires : goal.list-fills-requires
-list-fills-requires g c =
+pub list_fills-requires : goal.list_fills-requires
+list_fills-requires g c =
     let os = c.args.orders.now in
     let p = wills c.args.side c.args.opening.price.value in
     let n = length os in
@@ -74,8 +74,8 @@ returns g c =
     record {
       within = c.allocate-start.ensures.within;
       listed =
-          ap (map filled_pair) (rest_written a.traders.now c.list-fills.new.filled start n c.allocate-start.ensures.within c.requires.traders_fit)
-          ∙ c.list-fills.ensures
+          ap (map filled_pair) (rest_written a.traders.now c.list_fills.new.filled start n c.allocate-start.ensures.within c.requires.traders_fit)
+          ∙ c.list_fills.ensures
           ∙ (λ i. numbered_fills (orders_at os (ranks i)) (shares i))
           ∙ ap (λ ys. numbered_fills ys (map f (by_priority (filter p os)))) (ranked_stand p os)
           ∙ numbered_map f (by_priority (filter p os));

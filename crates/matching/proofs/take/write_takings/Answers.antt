@@ -31,8 +31,8 @@ allocate-start-requires g c = record {
   guarantees = c.requires.guarantees;
 }
 
-pub write-trades-count-requires : goal.write-trades-count-requires
-write-trades-count-requires g c =
+pub write_trades-count-requires : goal.write_trades-count-requires
+write_trades-count-requires g c =
     let os = c.args.orders.now in
     let p = passes c.args.filter in
     let n = length os in
@@ -76,8 +76,8 @@ returns g c =
     let given-shares = take (n - start) (drop start sh) in
     let rows = rows_are p f os part given-shares ranks shares a.taker.side a.taker.number in
     record {
-      counted = c.write-trades-count.ensures.counted ∙ ap length rows;
-      written = c.write-trades-count.ensures.written ∙ ap (λ rs. rs ++ drop c.write-trades-count.result a.rows.now) rows;
-      few = omega (arith, c.write-trades-count.ensures.few, ap length ranks, ranks_few p os);
+      counted = c.write_trades-count.ensures.counted ∙ ap length rows;
+      written = c.write_trades-count.ensures.written ∙ ap (λ rs. rs ++ drop c.write_trades-count.result a.rows.now) rows;
+      few = omega (arith, c.write_trades-count.ensures.few, ap length ranks, ranks_few p os);
       filled = c.scatter.ensures ∙ (λ i. scattered (ranks i) (shares i) (counts a.fills.now));
     }
