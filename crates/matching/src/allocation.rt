@@ -94,7 +94,7 @@ fn share_level<R: SharingRule>(
     requires small { (k : ℕ) → slice_index (counts claims.now) k ≤ 9999 }
     requires amounts { taking.amount.count ≤ 1599840 }
     requires guarantees { taking.guarantee.count ≤ 9999 }
-    ensures { counts shares.new ≡ shared rule.now (counts claims.now) taking.amount.count (mark_among taking.marked (orders_at orders.now level.now)) taking.guarantee.count }
+    ensures { counts shares.new ≡ R.shared rule.now (counts claims.now) taking.amount.count (mark_among taking.marked (orders_at orders.now level.now)) taking.guarantee.count }
 {
     let mark = mark_in(orders, level, taking.marked);
     let _ = rule.share(claims, taking.amount, mark, taking.guarantee, shares);
@@ -119,7 +119,7 @@ fn share_levels<R: SharingRule>(
     requires small { All (λ o. standing o ≤ 9999) (orders_at orders.now ranked.now) }
     requires amounts { taking.amount.count ≤ 1599840 }
     requires guarantees { taking.guarantee.count ≤ 9999 }
-    ensures { counts shares.new ≡ map (fill (shared rule.now) (orders_at orders.now ranked.now) taking.amount.count taking.marked taking.guarantee.count) (orders_at orders.now ranked.now) }
+    ensures { counts shares.new ≡ map (fill (R.shared rule.now) (orders_at orders.now ranked.now) taking.amount.count taking.marked taking.guarantee.count) (orders_at orders.now ranked.now) }
 {
     let n = ranked.len();
     let mut start = 0;
@@ -163,7 +163,7 @@ fn allocate_ranked<R: SharingRule>(
     requires shares_fit { length ranked.now ≡ length shares.old }
     requires amounts { taking.amount.count ≤ 1599840 }
     requires guarantees { taking.guarantee.count ≤ 9999 }
-    ensures { counts shares.new ≡ map (fill (shared rule.now) (kept_by (passes filter) orders.now) taking.amount.count taking.marked taking.guarantee.count) (by_priority (kept_by (passes filter) orders.now)) }
+    ensures { counts shares.new ≡ map (fill (R.shared rule.now) (kept_by (passes filter) orders.now) taking.amount.count taking.marked taking.guarantee.count) (by_priority (kept_by (passes filter) orders.now)) }
 {
     claim(orders, ranked, claims);
     share_levels(rule, orders, ranked, claims, taking, shares);
@@ -188,7 +188,7 @@ pub(crate) fn allocate<R: SharingRule>(
     requires guarantees { taking.guarantee.count ≤ 9999 }
     ensures within { result ≤ length orders.now }
     ensures ranked { drop result ranked.new ≡ by_rank (ranked_from (passes filter) 0 orders.now) }
-    ensures shares { counts (drop result shares.new) ≡ map (fill (shared rule.now) (kept_by (passes filter) orders.now) taking.amount.count taking.marked taking.guarantee.count) (by_priority (kept_by (passes filter) orders.now)) }
+    ensures shares { counts (drop result shares.new) ≡ map (fill (R.shared rule.now) (kept_by (passes filter) orders.now) taking.amount.count taking.marked taking.guarantee.count) (by_priority (kept_by (passes filter) orders.now)) }
 {
     let n = orders.len();
     let start = rank(orders, filter, ranked);

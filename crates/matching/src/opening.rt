@@ -68,8 +68,8 @@ fn fill_side<R: SharingRule>(
     requires opens { opening.quantity.count ≡ matched_volume of_order orders.now opening.price.value }
     requires amounts { opening.quantity.count ≤ 1599840 }
     ensures within { result ≤ length orders.now }
-    ensures listed { map filled_pair (drop result traders.new) ≡ filled (shared rule.now) orders.now opening.price.value side }
-    ensures placed { counts fills.new ≡ filled_places (wills side opening.price.value) (opening_fill (shared rule.now) orders.now opening.price.value side) orders.now (counts fills.old) }
+    ensures listed { map filled_pair (drop result traders.new) ≡ filled (R.shared rule.now) orders.now opening.price.value side }
+    ensures placed { counts fills.new ≡ filled_places (wills side opening.price.value) (opening_fill (R.shared rule.now) orders.now opening.price.value side) orders.now (counts fills.old) }
 {
     let n = orders.len();
     let taking = Taking {
@@ -120,9 +120,9 @@ fn write_opening<R: SharingRule>(
     requires fills_fit { length orders.now ≡ length fills.old }
     requires rows_fit { length orders.now ≤ length rows.old }
     requires opens { opening.quantity.count ≡ matched_volume of_order orders.now opening.price.value }
-    ensures counted { result ≡ length (opening_rows (shared rule.now) orders.now opening.price.value) }
-    ensures written { rows.new ≡ opening_rows (shared rule.now) orders.now opening.price.value ++ drop result rows.old }
-    ensures filled { counts fills.new ≡ both_filled (shared rule.now) orders.now opening.price.value (counts fills.old) }
+    ensures counted { result ≡ length (opening_rows (R.shared rule.now) orders.now opening.price.value) }
+    ensures written { rows.new ≡ opening_rows (R.shared rule.now) orders.now opening.price.value ++ drop result rows.old }
+    ensures filled { counts fills.new ≡ both_filled (R.shared rule.now) orders.now opening.price.value (counts fills.old) }
 {
     let n = orders.len();
     let first_buyer = fill_side(
@@ -169,7 +169,7 @@ pub fn open_at<R: SharingRule>(
     price: Cents,
     rows: &mut [Row],
 ) -> Result<usize, Refusal>
-    ensures { Opens (shared rule.now) price.value table.old table.new rows.old rows.new result }
+    ensures { Opens (R.shared rule.now) price.value table.old table.new rows.old rows.new result }
 {
     let n = table.live().len();
     check_opening(n, price, rows.len())?;

@@ -74,10 +74,10 @@ fn write_takings<R: SharingRule>(
     requires rows_fit { length (kept_by (passes filter) orders.now) ≤ length rows.old }
     requires amounts { taker.taking.amount.count ≤ 1599840 }
     requires guarantees { taker.taking.guarantee.count ≤ 9999 }
-    ensures counted { result ≡ length (trades_of (shared rule.now) orders.now (passes filter) taker) }
-    ensures written { rows.new ≡ trades_of (shared rule.now) orders.now (passes filter) taker ++ drop result rows.old }
+    ensures counted { result ≡ length (trades_of (R.shared rule.now) orders.now (passes filter) taker) }
+    ensures written { rows.new ≡ trades_of (R.shared rule.now) orders.now (passes filter) taker ++ drop result rows.old }
     ensures few { result ≤ length (kept_by (passes filter) orders.now) }
-    ensures filled { counts fills.new ≡ filled_places (passes filter) (taker_fill (shared rule.now) orders.now (passes filter) taker) orders.now (counts fills.old) }
+    ensures filled { counts fills.new ≡ filled_places (passes filter) (taker_fill (R.shared rule.now) orders.now (passes filter) taker) orders.now (counts fills.old) }
 {
     let n = orders.len();
     let start = allocate(rule, orders, filter, taker.taking, ranked, shares);
@@ -101,7 +101,7 @@ pub fn take<R: SharingRule>(
     taker: Taker,
     rows: &mut [Row],
 ) -> Result<Taken, Refusal>
-    ensures { Takes (shared rule.now) (passes filter) taker table.old table.new rows.old rows.new result }
+    ensures { Takes (R.shared rule.now) (passes filter) taker table.old table.new rows.old rows.new result }
 {
     check_taking(table.live(), filter, taker.taking, rows.len())?;
     let n = table.live().len();

@@ -82,7 +82,7 @@ impl<R: SharingRule> Series<R> {
         size: Contracts,
     ) -> Result<(Ticket, Started), Refusal>
         ensures rule { self.new.rule ≡ self.old.rule }
-        ensures answers { Answers (shared self.old.rule) (state self.old) (state self.new) [] (told_start result) (handed_start result) (calls.start pass.now.series time member side price size) }
+        ensures answers { Answers (R.shared self.old.rule) (state self.old) (state self.new) [] (told_start result) (handed_start result) (calls.start pass.now.series time member side price size) }
     {
         self.check_start(pass, time, member, side, price, size)?;
         let started = append_pair(&mut self.table, member, side, price, size);
@@ -117,7 +117,7 @@ impl<R: SharingRule> Series<R> {
         rows: &mut [Row],
     ) -> Result<Entered, Refusal>
         ensures rule { self.new.rule ≡ self.old.rule }
-        ensures answers { Answers (shared self.old.rule) (state self.old) (state self.new) rows.new (told_entry result) nothing (calls.improve pass.now.series time member price size replaces rows.old) }
+        ensures answers { Answers (R.shared self.old.rule) (state self.old) (state self.new) rows.new (told_entry result) nothing (calls.improve pass.now.series time member price size replaces rows.old) }
     {
         self.check_improve(pass, time, member, price, size, replaces, rows)?;
         let old = self.replaced(member, replaces);
@@ -142,7 +142,7 @@ impl<R: SharingRule> Series<R> {
         rows: &mut [Row],
     ) -> Result<Entered, Refusal>
         ensures rule { self.new.rule ≡ self.old.rule }
-        ensures answers { Answers (shared self.old.rule) (state self.old) (state self.new) rows.new (told_entry result) (runs.ticket (shown ticket.now)) (calls.better pass.now.series (shown ticket.now) time price rows.old) }
+        ensures answers { Answers (R.shared self.old.rule) (state self.old) (state self.new) rows.new (told_entry result) (runs.ticket (shown ticket.now)) (calls.better pass.now.series (shown ticket.now) time price rows.old) }
     {
         self.check_better(pass, ticket, time, price, rows)?;
         // never refused here: the ticket is of a running auction

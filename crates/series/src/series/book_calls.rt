@@ -30,7 +30,7 @@ impl<R: SharingRule> Series<R> {
         size: Contracts,
     ) -> Result<Entered, Refusal>
         ensures rule { self.new.rule ≡ self.old.rule }
-        ensures answers { Answers (shared self.old.rule) (state self.old) (state self.new) [] (told_entry result) nothing (calls.place pass.now.series time member side account kind size) }
+        ensures answers { Answers (R.shared self.old.rule) (state self.old) (state self.new) [] (told_entry result) nothing (calls.place pass.now.series time member side account kind size) }
     {
         self.check_place(pass, time, member, side, account, kind, size)?;
         let number = self.table.next() as u16;
@@ -49,7 +49,7 @@ impl<R: SharingRule> Series<R> {
         rows: &mut [Row],
     ) -> Result<usize, Refusal>
         ensures rule { self.new.rule ≡ self.old.rule }
-        ensures answers { Answers (shared self.old.rule) (state self.old) (state self.new) rows.new (told_rows result) nothing (calls.withdraw time member order rows.old) }
+        ensures answers { Answers (R.shared self.old.rule) (state self.old) (state self.new) rows.new (told_rows result) nothing (calls.withdraw time member order rows.old) }
     {
         let withdrawn = self.check_withdraw(time, member, order, rows)?;
         rows[0] = Departure::Withdrawal.row(&withdrawn);
@@ -61,7 +61,7 @@ impl<R: SharingRule> Series<R> {
     // Takes off the orders whose exposure has ended.
     pub fn clock(&mut self, time: Millis, rows: &mut [Row]) -> Result<usize, Refusal>
         ensures rule { self.new.rule ≡ self.old.rule }
-        ensures answers { Answers (shared self.old.rule) (state self.old) (state self.new) rows.new (told_rows result) nothing (calls.clock time rows.old) }
+        ensures answers { Answers (R.shared self.old.rule) (state self.old) (state self.new) rows.new (told_rows result) nothing (calls.clock time rows.old) }
     {
         self.check_clock(time, rows)?;
         let live = self.table.live();

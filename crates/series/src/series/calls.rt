@@ -62,7 +62,7 @@ impl<R: SharingRule> Series<R> {
         offer: Option<Cents>,
     ) -> Result<(), Refusal>
         ensures rule { self.new.rule ≡ self.old.rule }
-        ensures answers { Answers (shared self.old.rule) (state self.old) (state self.new) [] (told_nothing result) nothing (calls.away time market bid offer) }
+        ensures answers { Answers (R.shared self.old.rule) (state self.old) (state self.new) [] (told_nothing result) nothing (calls.away time market bid offer) }
     {
         self.check_away(time, market, bid, offer)?;
         self.away.replace(market, Quote { bid, offer });

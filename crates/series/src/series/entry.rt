@@ -118,7 +118,7 @@ fn enter_order<R: SharingRule>(
     requires order { Enterable order table.old }
     requires best { or_else (cents best) 0 ≤ 99999 }
     requires room { 192 ≤ length rows.old }
-    ensures { Admitted (shared rule.now) order (cents best) end.count table.old table.new rows.old rows.new result }
+    ensures { Admitted (R.shared rule.now) order (cents best) end.count table.old table.new rows.old rows.new result }
 {
     let limit = order.kind.price();
     let reach = bound(order.side, limit, best);
@@ -158,7 +158,7 @@ impl<R: SharingRule> Series<R> {
         rows: &mut [Row],
     ) -> Result<Entered, Refusal>
         ensures rule { self.new.rule ≡ self.old.rule }
-        ensures answers { Answers (shared self.old.rule) (state self.old) (state self.new) rows.new (told_entry result) nothing (calls.enter pass.now.series time member side account price size rows.old) }
+        ensures answers { Answers (R.shared self.old.rule) (state self.old) (state self.new) rows.new (told_entry result) nothing (calls.enter pass.now.series time member side account price size rows.old) }
     {
         self.check_enter(pass, time, member, side, account, price, size, rows)?;
         let number = self.table.next() as u16;

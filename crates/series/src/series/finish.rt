@@ -68,7 +68,7 @@ fn finish_auction<R: SharingRule>(
     requires others { count_by (passes Filter.Outside) (without auction.customer (orders table.old)) ≤ 32 }
     requires size { auction.size.count ≤ 9999 }
     requires room { 192 ≤ length rows.old }
-    ensures { Finished (shared rule.now) auction table.old table.new rows.old rows.new result }
+    ensures { Finished (R.shared rule.now) auction table.old table.new rows.old rows.new result }
 {
     let taken = take_in_bounds(
         rule,
@@ -93,7 +93,7 @@ impl<R: SharingRule> Series<R> {
         rows: &mut [Row],
     ) -> Result<usize, Refusal>
         ensures rule { self.new.rule ≡ self.old.rule }
-        ensures answers { Answers (shared self.old.rule) (state self.old) (state self.new) rows.new (told_rows result) (runs.ticket (shown ticket.new)) (calls.finish (shown ticket.old) time rows.old) }
+        ensures answers { Answers (R.shared self.old.rule) (state self.old) (state self.new) rows.new (told_rows result) (runs.ticket (shown ticket.new)) (calls.finish (shown ticket.old) time rows.old) }
     {
         self.check_finish(ticket, time, rows)?;
         match self.auction {

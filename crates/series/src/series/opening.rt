@@ -27,7 +27,7 @@ fn match_orders<R: SharingRule>(
     requires few { length (orders table.old) ≤ 128 }
     requires room { 192 ≤ length rows.old }
     requires price { Priced opening }
-    ensures { Matched (shared rule.now) opening table.old table.new rows.old rows.new result }
+    ensures { Matched (R.shared rule.now) opening table.old table.new rows.old rows.new result }
 {
     match opening {
         Some((price, _)) => match open_at(rule, table, Cents { value: price }, rows) {
@@ -49,7 +49,7 @@ impl<R: SharingRule> Series<R> {
         rows: &mut [Row],
     ) -> Result<(TradingPass, Opened), (PreOpeningPass, Refusal)>
         ensures rule { self.new.rule ≡ self.old.rule }
-        ensures answers { Answers (shared self.old.rule) (state self.old) (state self.new) rows.new (told_open result) (handed_open result) (calls.opening pass.series time waived rows.old) }
+        ensures answers { Answers (R.shared self.old.rule) (state self.old) (state self.new) rows.new (told_open result) (handed_open result) (calls.opening pass.series time waived rows.old) }
     {
         let opening = top(&self.table, self.close);
         match self.check_open(&pass, time, waived, opening, rows) {

@@ -19,7 +19,7 @@ use sharing::rule::SharingRule;
 impl<R: SharingRule> Series<R> {
     fn play_place(&mut self, call: PlaceCall) -> Outcome
         ensures rule { self.new.rule ≡ self.old.rule }
-        ensures answers { Answers (shared self.old.rule) (state self.old) (state self.new) [] (answer_of result.answer) (handed_of result.handed) (call_of (DayCall.Place call)) }
+        ensures answers { Answers (R.shared self.old.rule) (state self.old) (state self.new) [] (answer_of result.answer) (handed_of result.handed) (call_of (DayCall.Place call)) }
     {
         let pass = PreOpeningPass { series: call.pass };
         let result = self.place(
@@ -40,7 +40,7 @@ impl<R: SharingRule> Series<R> {
     fn play_withdraw(&mut self, call: WithdrawCall, rows: &mut [Row]) -> Outcome
         requires { rows.old ≡ unused call.lent }
         ensures rule { self.new.rule ≡ self.old.rule }
-        ensures answers { Answers (shared self.old.rule) (state self.old) (state self.new) rows.new (answer_of result.answer) (handed_of result.handed) (call_of (DayCall.Withdraw call)) }
+        ensures answers { Answers (R.shared self.old.rule) (state self.old) (state self.new) rows.new (answer_of result.answer) (handed_of result.handed) (call_of (DayCall.Withdraw call)) }
     {
         let result = self.withdraw(call.time, call.member, call.order, rows);
         Outcome {
@@ -51,7 +51,7 @@ impl<R: SharingRule> Series<R> {
 
     fn play_away(&mut self, call: AwayCall) -> Outcome
         ensures rule { self.new.rule ≡ self.old.rule }
-        ensures answers { Answers (shared self.old.rule) (state self.old) (state self.new) [] (answer_of result.answer) (handed_of result.handed) (call_of (DayCall.Away call)) }
+        ensures answers { Answers (R.shared self.old.rule) (state self.old) (state self.new) [] (answer_of result.answer) (handed_of result.handed) (call_of (DayCall.Away call)) }
     {
         let result = self.away(call.time, call.market, call.bid, call.offer);
         Outcome {
@@ -63,7 +63,7 @@ impl<R: SharingRule> Series<R> {
     fn play_open(&mut self, call: OpenCall, rows: &mut [Row]) -> Outcome
         requires { rows.old ≡ unused call.lent }
         ensures rule { self.new.rule ≡ self.old.rule }
-        ensures answers { Answers (shared self.old.rule) (state self.old) (state self.new) rows.new (answer_of result.answer) (handed_of result.handed) (call_of (DayCall.Open call)) }
+        ensures answers { Answers (R.shared self.old.rule) (state self.old) (state self.new) rows.new (answer_of result.answer) (handed_of result.handed) (call_of (DayCall.Open call)) }
     {
         let pass = PreOpeningPass { series: call.pass };
         of_open(self.open(pass, call.time, call.waived, rows))
@@ -72,7 +72,7 @@ impl<R: SharingRule> Series<R> {
     fn play_enter(&mut self, call: EnterCall, rows: &mut [Row]) -> Outcome
         requires { rows.old ≡ unused call.lent }
         ensures rule { self.new.rule ≡ self.old.rule }
-        ensures answers { Answers (shared self.old.rule) (state self.old) (state self.new) rows.new (answer_of result.answer) (handed_of result.handed) (call_of (DayCall.Enter call)) }
+        ensures answers { Answers (R.shared self.old.rule) (state self.old) (state self.new) rows.new (answer_of result.answer) (handed_of result.handed) (call_of (DayCall.Enter call)) }
     {
         let pass = TradingPass { series: call.pass };
         let result = self.enter(
@@ -94,7 +94,7 @@ impl<R: SharingRule> Series<R> {
     fn play_clock(&mut self, call: ClockCall, rows: &mut [Row]) -> Outcome
         requires { rows.old ≡ unused call.lent }
         ensures rule { self.new.rule ≡ self.old.rule }
-        ensures answers { Answers (shared self.old.rule) (state self.old) (state self.new) rows.new (answer_of result.answer) (handed_of result.handed) (call_of (DayCall.Clock call)) }
+        ensures answers { Answers (R.shared self.old.rule) (state self.old) (state self.new) rows.new (answer_of result.answer) (handed_of result.handed) (call_of (DayCall.Clock call)) }
     {
         let result = self.clock(call.time, rows);
         Outcome {
@@ -105,7 +105,7 @@ impl<R: SharingRule> Series<R> {
 
     fn play_start(&mut self, call: StartCall) -> Outcome
         ensures rule { self.new.rule ≡ self.old.rule }
-        ensures answers { Answers (shared self.old.rule) (state self.old) (state self.new) [] (answer_of result.answer) (handed_of result.handed) (call_of (DayCall.Start call)) }
+        ensures answers { Answers (R.shared self.old.rule) (state self.old) (state self.new) [] (answer_of result.answer) (handed_of result.handed) (call_of (DayCall.Start call)) }
     {
         let pass = TradingPass { series: call.pass };
         of_start(self.start(
@@ -121,7 +121,7 @@ impl<R: SharingRule> Series<R> {
     fn play_improve(&mut self, call: ImproveCall, rows: &mut [Row]) -> Outcome
         requires { rows.old ≡ unused call.lent }
         ensures rule { self.new.rule ≡ self.old.rule }
-        ensures answers { Answers (shared self.old.rule) (state self.old) (state self.new) rows.new (answer_of result.answer) (handed_of result.handed) (call_of (DayCall.Improve call)) }
+        ensures answers { Answers (R.shared self.old.rule) (state self.old) (state self.new) rows.new (answer_of result.answer) (handed_of result.handed) (call_of (DayCall.Improve call)) }
     {
         let pass = TradingPass { series: call.pass };
         let result = self.improve(
@@ -142,7 +142,7 @@ impl<R: SharingRule> Series<R> {
     fn play_better(&mut self, call: BetterCall, rows: &mut [Row]) -> Outcome
         requires { rows.old ≡ unused call.lent }
         ensures rule { self.new.rule ≡ self.old.rule }
-        ensures answers { Answers (shared self.old.rule) (state self.old) (state self.new) rows.new (answer_of result.answer) (handed_of result.handed) (call_of (DayCall.Better call)) }
+        ensures answers { Answers (R.shared self.old.rule) (state self.old) (state self.new) rows.new (answer_of result.answer) (handed_of result.handed) (call_of (DayCall.Better call)) }
     {
         let pass = TradingPass { series: call.pass };
         let ticket = Ticket::from_note(call.ticket);
@@ -156,7 +156,7 @@ impl<R: SharingRule> Series<R> {
     fn play_finish(&mut self, call: FinishCall, rows: &mut [Row]) -> Outcome
         requires { rows.old ≡ unused call.lent }
         ensures rule { self.new.rule ≡ self.old.rule }
-        ensures answers { Answers (shared self.old.rule) (state self.old) (state self.new) rows.new (answer_of result.answer) (handed_of result.handed) (call_of (DayCall.Finish call)) }
+        ensures answers { Answers (R.shared self.old.rule) (state self.old) (state self.new) rows.new (answer_of result.answer) (handed_of result.handed) (call_of (DayCall.Finish call)) }
     {
         let mut ticket = Ticket::from_note(call.ticket);
         let result = self.finish(&mut ticket, call.time, rows);
@@ -170,7 +170,7 @@ impl<R: SharingRule> Series<R> {
     pub(super) fn play(&mut self, call: DayCall, rows: &mut [Row]) -> Outcome
         requires { rows.old ≡ lent (call_of call) }
         ensures rule { self.new.rule ≡ self.old.rule }
-        ensures answers { Answers (shared self.old.rule) (state self.old) (state self.new) rows.new (answer_of result.answer) (handed_of result.handed) (call_of call) }
+        ensures answers { Answers (R.shared self.old.rule) (state self.old) (state self.new) rows.new (answer_of result.answer) (handed_of result.handed) (call_of call) }
     {
         match call {
             DayCall::Place(place) => self.play_place(place),

@@ -42,8 +42,8 @@ impl<R: SharingRule> Series<R> {
     // Makes a call, and notes what became of it.
     fn record(&mut self, call: DayCall) -> JournalEntry
         ensures rule { self.new.rule ≡ self.old.rule }
-        ensures state { state self.new ≡ after (shared self.old.rule) (state self.old) (call_of call) }
-        ensures event { event_of result ≡ event (shared self.old.rule) (state self.old) (call_of call) }
+        ensures state { state self.new ≡ after (R.shared self.old.rule) (state self.old) (call_of call) }
+        ensures event { event_of result ≡ event (R.shared self.old.rule) (state self.old) (call_of call) }
     {
         let mut memory = unused_rows();
         let lent = call.lent().min(MOST_LENT);
@@ -65,7 +65,7 @@ pub fn replay<R: SharingRule + Drop>(
     close: Close,
     calls: &[DayCall],
 ) -> Result<Vec<JournalEntry>, AllocError>
-    ensures { IfOk result (λ j. Replayed (shared rule) number close.price.value calls.now j.items) }
+    ensures { IfOk result (λ j. Replayed (R.shared rule) number close.price.value calls.now j.items) }
 {
     let (mut series, _pass) = Series::new(number, close, rule);
     let mut journal = Vec::new(heap);

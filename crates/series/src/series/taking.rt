@@ -23,7 +23,7 @@ pub(super) fn take_in_bounds<R: SharingRule>(
     requires rows_fit { count_by (passes filter) (orders table.old) ≤ length rows.old }
     requires amounts { taker.taking.amount.count ≤ 1599840 }
     requires guarantees { taker.taking.guarantee.count ≤ 9999 }
-    ensures took { Took (shared rule.now) (passes filter) taker table.old table.new rows.old rows.new result }
+    ensures took { Took (R.shared rule.now) (passes filter) taker table.old table.new rows.old rows.new result }
     ensures within { result.traded.count ≤ taker.taking.amount.count }
 {
     match take(rule, table, filter, taker, rows) {

@@ -10,6 +10,6 @@ returns c =
     let e = c.floor-middle.ensures.is in
     let b : c.below.result ≡ below (floor c.args.price) = c.below.ensures.is ∙ ap below e in
     let a : c.above.result ≡ above (floor c.args.price) = c.above.ensures.is ∙ ap above e in
-    let two = tried_then i c.args.search c.try-price-first.result c.try-price-second.result _ _ c.try-price-first.ensures c.try-price-second.ensures in
-    let all = tried_then i c.args.search c.try-price-second.result c.try-price.result _ _ two c.try-price.ensures in
-    subst (λ (cs : List ℕ). Tried i c.args.search c.try-price.result cs) (λ t. b t ∷ e t ∷ a t ∷ []) all
+    let two = tried_then i c.args.search c.try_price-first.result c.try_price-second.result _ _ c.try_price-first.ensures c.try_price-second.ensures in
+    let all = tried_then i c.args.search c.try_price-second.result c.try_price.result _ _ two c.try_price.ensures in
+    subst (λ (cs : List ℕ). Tried i c.args.search c.try_price.result cs) (λ t. b t ∷ e t ∷ a t ∷ []) all

@@ -9,13 +9,13 @@ returns-in-Buy c =
     let i = c.args.opening.now in
     let e = c.floor-last.ensures.is in
     let a : c.above.result ≡ above (floor c.args.limit) = c.above.ensures.is ∙ ap above e in
-    let two = tried_then i c.args.search c.try-price-willing.result c.try-price.result _ _ c.try-price-willing.ensures c.try-price.ensures in
-    subst (λ (cs : List ℕ). Tried i c.args.search c.try-price.result cs) ((λ t. e t ∷ a t ∷ []) ∙ ap (λ s. beside s c.args.limit) (sym c.in-Buy.is)) two
+    let two = tried_then i c.args.search c.try_price-willing.result c.try_price.result _ _ c.try_price-willing.ensures c.try_price.ensures in
+    subst (λ (cs : List ℕ). Tried i c.args.search c.try_price.result cs) ((λ t. e t ∷ a t ∷ []) ∙ ap (λ s. beside s c.args.limit) (sym c.in-Buy.is)) two
 
 pub returns-in-Sell : goal.returns-in-Sell
 returns-in-Sell c =
     let i = c.args.opening.now in
     let e = c.ceiling-first.ensures.is in
     let b : c.below.result ≡ below (ceiling c.args.limit) = c.below.ensures.is ∙ ap below e in
-    let two = tried_then i c.args.search c.try-price-unwilling.result c.try-price-in-Sell.result _ _ c.try-price-unwilling.ensures c.try-price-in-Sell.ensures in
-    subst (λ (cs : List ℕ). Tried i c.args.search c.try-price-in-Sell.result cs) ((λ t. b t ∷ e t ∷ []) ∙ ap (λ s. beside s c.args.limit) (sym c.in-Sell.is)) two
+    let two = tried_then i c.args.search c.try_price-unwilling.result c.try_price-in-Sell.result _ _ c.try_price-unwilling.ensures c.try_price-in-Sell.ensures in
+    subst (λ (cs : List ℕ). Tried i c.args.search c.try_price-in-Sell.result cs) ((λ t. b t ∷ e t ∷ []) ∙ ap (λ s. beside s c.args.limit) (sym c.in-Sell.is)) two

@@ -15,8 +15,8 @@ loop-step-init c =
     let l = c.args.ladder.now in
     trying_none c.args.opening.now c.args.side (mid_of l.first (161 - l.first) l.steps) c.args.search c.requires.sound
 
-pub try-beside-best-requires : goal.try-beside-best-requires
-try-beside-best-requires c =
+pub try_beside-best-requires : goal.try_beside-best-requires
+try_beside-best-requires c =
     let l = c.args.ladder.now in
     let e = part l (omega arith) c.requires.inside in
     record {
@@ -33,7 +33,7 @@ loop-step-preserved c =
     let t = c.loop-step in
     let lt = c.loop-step-test.true in
     elim c.if-step-last.branch [
-      | then-step-last w ↦ rw (w.best-is, w.last-is) (trying_next i c.args.side xs c.args.search t.best t.last t.step-index t.invariant lt w.if-step-last.true w.try-beside-best.result w.try-beside-best.ensures)
+      | then-step-last w ↦ rw (w.best-is, w.last-is) (trying_next i c.args.side xs c.args.search t.best t.last t.step-index t.invariant lt w.if-step-last.true w.try_beside-best.result w.try_beside-best.ensures)
       | else-step-last w ↦ rw (w.best-is, w.last-is) (trying_same i c.args.side xs c.args.search t.best t.last t.step-index t.invariant lt w.if-step-last.false)
     ]
 

@@ -12,6 +12,6 @@ returns g c =
     let claims = counts a.claims.now in
     let rule = g.R.SharingRule.shared a.rule.now in
     let long = ap length c.requires.claimed ∙ length-map (orders_at a.orders.now a.level.now) standing ∙ length-map a.level.now (at a.orders.now) in
-    asked rule claims a.taking.amount.count c.mark-in-mark.result a.taking.guarantee.count a.shares.now c.share.new.shares c.share.result c.share.ensures
+    asked rule claims a.taking.amount.count c.mark_in-mark.result a.taking.guarantee.count a.shares.now c.share.new.shares c.share.result c.share.ensures
     (record { few = omega arith; small = c.requires.small; amounts = c.requires.amounts; guarantees = c.requires.guarantees }) (omega arith)
-    ∙ ap (λ m. rule claims a.taking.amount.count m a.taking.guarantee.count) c.mark-in-mark.ensures
+    ∙ ap (λ m. rule claims a.taking.amount.count m a.taking.guarantee.count) c.mark_in-mark.ensures

@@ -2,8 +2,8 @@ use Rattle.std.proofs.Common.{◌∙◌, arith, rules}
 use Rattle.sharing.proofs.Counts.{counts_at, length_counts, summed_more, summed_all}
 use Rattle.matching.proofs.allocation.sum_of.Goals as goal
 
-pub overflow-add-sum : goal.overflow-add-sum
-overflow-add-sum c =
+pub overflow_add-sum : goal.overflow_add-sum
+overflow_add-sum c =
     let at = counts_at c.args.contracts.now c.loop-c.c-index in
     let small = c.requires.small c.loop-c.c-index in
     let long = length_counts c.args.contracts.now in

@@ -4,8 +4,8 @@ use Rattle.matching.proofs.Sorting.{no_rank}
 use Rattle.matching.proofs.Scattering.{scattered_more, scattered_end}
 use Rattle.matching.proofs.fills.scatter.Goals as goal
 
-pub offset-bounds-fills-r : goal.offset-bounds-fills-r
-offset-bounds-fills-r c =
+pub offset_bounds-fills-r : goal.offset_bounds-fills-r
+offset_bounds-fills-r c =
     let inside = All-get_or (λ r. r.place < length c.args.fills.now) c.args.ranked.now c.loop-i.i no_rank (omega arith) c.requires.places in
     search rules
 

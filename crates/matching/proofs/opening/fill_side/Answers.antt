@@ -25,20 +25,20 @@ allocate-start-requires g c = record {
   small = live_small c.args.orders.now 65536 c.requires.live;
   long = c.requires.live.few;
   few = c.requires.few;
-  ranked-fit = c.requires.ranked-fit;
-  shares-fit = c.requires.shares-fit;
+  ranked_fit = c.requires.ranked_fit;
+  shares_fit = c.requires.shares_fit;
   amounts = c.requires.amounts;
   guarantees = omega arith;
 }
 
-pub list-fills-requires : goal.list-fills-requires
-list-fills-requires g c =
+pub list_fills-requires : goal.list_fills-requires
+list_fills-requires g c =
     let os = c.args.orders.now in
     let p = wills c.args.side c.args.opening.price.value in
     let n = length os in
     let start = c.allocate-start.result in
     let rk = c.allocate-start.new.ranked in
-    let ranks : take (n - start) (drop start rk) ≡ by_rank (ranked_from p 0 os) = rest_is rk start n (omega (arith, c.requires.ranked-fit, c.allocate-start.auto.ranked)) ∙ c.allocate-start.ensures.ranked in
+    let ranks : take (n - start) (drop start rk) ≡ by_rank (ranked_from p 0 os) = rest_is rk start n (omega (arith, c.requires.ranked_fit, c.allocate-start.auto.ranked)) ∙ c.allocate-start.ensures.ranked in
     record {
       places = subst (All (λ (r : Ranked). r.place < n)) (sym ranks) (places_inside p os n (omega arith));
       even = search rules;
@@ -52,9 +52,9 @@ scatter-requires g c =
     let n = length os in
     let start = c.allocate-start.result in
     let rk = c.allocate-start.new.ranked in
-    let ranks : take (n - start) (drop start rk) ≡ by_rank (ranked_from p 0 os) = rest_is rk start n (omega (arith, c.requires.ranked-fit, c.allocate-start.auto.ranked)) ∙ c.allocate-start.ensures.ranked in
+    let ranks : take (n - start) (drop start rk) ≡ by_rank (ranked_from p 0 os) = rest_is rk start n (omega (arith, c.requires.ranked_fit, c.allocate-start.auto.ranked)) ∙ c.allocate-start.ensures.ranked in
     record {
-      places = subst (All (λ (r : Ranked). r.place < length c.args.fills.now)) (sym ranks) (places_inside p os (length c.args.fills.now) (omega (arith, c.requires.fills-fit)));
+      places = subst (All (λ (r : Ranked). r.place < length c.args.fills.now)) (sym ranks) (places_inside p os (length c.args.fills.now) (omega (arith, c.requires.fills_fit)));
       even = search rules;
     }
 
@@ -69,13 +69,13 @@ returns g c =
     let start = c.allocate-start.result in
     let rk = c.allocate-start.new.ranked in
     let sh = c.allocate-start.new.shares in
-    let ranks : take (n - start) (drop start rk) ≡ by_rank (ranked_from p 0 os) = rest_is rk start n (omega (arith, c.requires.ranked-fit, c.allocate-start.auto.ranked)) ∙ c.allocate-start.ensures.ranked in
-    let shares : counts (take (n - start) (drop start sh)) ≡ map f (by_priority (filter p os)) = ap counts (rest_is sh start n (omega (arith, c.requires.shares-fit, c.allocate-start.auto.shares))) ∙ c.allocate-start.ensures.shares ∙ ap (λ q. map (fill rule (filter p os) q None 0) (by_priority (filter p os))) c.requires.opens in
+    let ranks : take (n - start) (drop start rk) ≡ by_rank (ranked_from p 0 os) = rest_is rk start n (omega (arith, c.requires.ranked_fit, c.allocate-start.auto.ranked)) ∙ c.allocate-start.ensures.ranked in
+    let shares : counts (take (n - start) (drop start sh)) ≡ map f (by_priority (filter p os)) = ap counts (rest_is sh start n (omega (arith, c.requires.shares_fit, c.allocate-start.auto.shares))) ∙ c.allocate-start.ensures.shares ∙ ap (λ q. map (fill rule (filter p os) q None 0) (by_priority (filter p os))) c.requires.opens in
     record {
       within = c.allocate-start.ensures.within;
       listed =
-          ap (map filled_pair) (rest_written a.traders.now c.list-fills.new.filled start n c.allocate-start.ensures.within c.requires.traders-fit)
-          ∙ c.list-fills.ensures
+          ap (map filled_pair) (rest_written a.traders.now c.list_fills.new.filled start n c.allocate-start.ensures.within c.requires.traders_fit)
+          ∙ c.list_fills.ensures
           ∙ (λ i. numbered_fills (orders_at os (ranks i)) (shares i))
           ∙ ap (λ ys. numbered_fills ys (map f (by_priority (filter p os)))) (ranked_stand p os)
           ∙ numbered_map f (by_priority (filter p os));

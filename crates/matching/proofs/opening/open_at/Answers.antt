@@ -17,30 +17,30 @@ use Rattle.matching.proofs.Opened.{each_few, left_opened, matched_small, own_wil
 use Rattle.matching.proofs.Takings.{lot_passing}
 use Rattle.matching.proofs.opening.open_at.Goals as goal
 
-pub write-opening-count-requires : goal.write-opening-count-requires
-write-opening-count-requires g c =
+pub write_opening-count-requires : goal.write_opening-count-requires
+write_opening-count-requires g c =
     let a = c.args in
     let p = a.price.value in
     let os = c.live.result.now in
-    let b = opening_bounds (length c.live-n.result.now) p (length a.rows.now) c.in-ok-check-opening.ensures in
+    let b = opening_bounds (length c.live-n.result.now) p (length a.rows.now) c.in_ok-check_opening.ensures in
     let same : length os ≡ length c.live-n.result.now = ap length (c.live.ensures.is ∙ sym c.live-n.ensures.is) in
     record {
       live = live_upto os a.table.now.next c.live.ensures.kept;
       few = omega (arith, same, b.claims);
-      ranked-fit = search rules;
-      shares-fit = search rules;
-      buyers-fit = search rules;
-      sellers-fit = search rules;
-      fills-fit = search rules;
+      ranked_fit = search rules;
+      shares_fit = search rules;
+      buyers_fit = search rules;
+      sellers_fit = search rules;
+      fills_fit = search rules;
       rows_fit = omega (arith, same, b.rows_fit);
       opens = c.matched_volume.ensures ∙ ap (λ (xs : List Order). matched_volume of_order xs p) (sym c.live.ensures.is);
     }
 
-pub slice-bounds-settle-end : goal.slice-bounds-settle-end
-slice-bounds-settle-end g c =
+pub slice_bounds-settle-end : goal.slice_bounds-settle-end
+slice_bounds-settle-end g c =
     let n = length c.live-n.result.now in
-    let fit : n ≡ length (take (n - 0) c.contract-room-fills.result) = search rules in
-    front_fits c.write-opening-count.new.fills c.contract-room-fills.result n c.write-opening-count.auto.fills fit
+    let fit : n ≡ length (take (n - 0) c.contract_room-fills.result) = search rules in
+    front_fits c.write_opening-count.new.fills c.contract_room-fills.result n c.write_opening-count.auto.fills fit
 
 pub returns : goal.returns
 returns g c =
@@ -49,13 +49,13 @@ returns g c =
     let t = a.table.now in
     let os = orders t in
     let rule = g.R.SharingRule.shared a.rule.now in
-    let w = c.write-opening-count in
+    let w = c.write_opening-count in
     let same = c.live.ensures.is in
-    let b = opening_bounds (length c.live-n.result.now) p (length a.rows.now) c.in-ok-check-opening.ensures in
+    let b = opening_bounds (length c.live-n.result.now) p (length a.rows.now) c.in_ok-check_opening.ensures in
     let few : length os ≤ 160 = omega (arith, ap length c.live-n.ensures.is, b.claims) in
     let live = live_upto os t.next (table_live t) in
     let n = length c.live-n.result.now in
-    let room = c.contract-room-fills.result in
+    let room = c.contract_room-fills.result in
     let fit : n ≡ length (take (n - 0) room) = search rules in
     let before = counts (take (n - 0) room) in
     let fills : counts (take (n - 0) (w.new.fills ++ drop (n - 0) room)) ≡ both_filled rule os p before =
@@ -63,7 +63,7 @@ returns g c =
     let long : length os ≡ length before = sym (ap length c.live-n.ensures.is) ∙ fit ∙ sym (length_counts (take (n - 0) room)) in
     let left = settled (own_wills rule os p) os (both_filled rule os p before) in
     record {
-      answer_is = c.in-ok-check-opening.ensures ∙ ap (λ (xs : List Order). first_hit (opening_checks (length xs) p (length a.rows.now))) c.live-n.ensures.is;
+      answer_is = c.in_ok-check_opening.ensures ∙ ap (λ (xs : List Order). first_hit (opening_checks (length xs) p (length a.rows.now))) c.live-n.ensures.is;
       done = record {
         counted = w.ensures.counted ∙ ap (λ (xs : List Order). length (opening_rows rule xs p)) same;
         written = w.ensures.written ∙ ap (λ (xs : List Order). opening_rows rule xs p ++ drop w.result a.rows.now) same;

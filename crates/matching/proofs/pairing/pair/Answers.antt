@@ -36,6 +36,6 @@ loop-unpaired-preserved c =
       going_on g (omega (arith, g.placed, c.if-at-sellers.false)) c.min-n.result.count (omega (arith, c.min-n.ensures, c.sub.ensures))
           (omega (arith, g.fits, c.min-n.ensures, c.sub.ensures, c.if-sold-seller.false, c.loop-unpaired-test.true))
           (rows_fit c.args.price.value c.args.buyers.now c.args.sellers.now (length c.pairing.rows) (omega (arith, c.pairing.invariant.writing.long, c.requires)))
-          c.sub-assign.new.self.count c.add-sold.result.count c.trade.result c.sub-assign.ensures.after c.add-sold.ensures c.trade.ensures,
+          c.sub_assign.new.self.count c.add-sold.result.count c.trade.result c.sub_assign.ensures.after c.add-sold.ensures c.trade.ensures,
       omega (arith, c.loop-unpaired.invariant.1),
     )

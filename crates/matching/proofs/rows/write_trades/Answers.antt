@@ -8,8 +8,8 @@ use Rattle.matching.proofs.Trades.{no_contracts, trading_one, trading_no, tradin
 use Rattle.matching.proofs.rows.write_trades.Goals as goal
 use Rattle.matching.proofs.rows.write_trades.Goals.{then-contracts-gt0, else-contracts-gt0}
 
-pub offset-bounds-orders-r : goal.offset-bounds-orders-r
-offset-bounds-orders-r c =
+pub offset_bounds-orders-r : goal.offset_bounds-orders-r
+offset_bounds-orders-r c =
     let inside = All-get_or (λ r. r.place < length c.args.orders.now) c.args.ranked.now c.loop-i.i no_rank (omega arith) c.requires.places in
     search rules
 

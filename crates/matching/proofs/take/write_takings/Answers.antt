@@ -25,20 +25,20 @@ allocate-start-requires g c = record {
   small = live_small c.args.orders.now 65536 c.requires.live;
   long = c.requires.live.few;
   few = c.requires.few;
-  ranked-fit = c.requires.ranked-fit;
-  shares-fit = c.requires.shares-fit;
+  ranked_fit = c.requires.ranked_fit;
+  shares_fit = c.requires.shares_fit;
   amounts = c.requires.amounts;
   guarantees = c.requires.guarantees;
 }
 
-pub write-trades-count-requires : goal.write-trades-count-requires
-write-trades-count-requires g c =
+pub write_trades-count-requires : goal.write_trades-count-requires
+write_trades-count-requires g c =
     let os = c.args.orders.now in
     let p = passes c.args.filter in
     let n = length os in
     let start = c.allocate-start.result in
     let rk = c.allocate-start.new.ranked in
-    let ranks : take (n - start) (drop start rk) ≡ by_rank (ranked_from p 0 os) = rest_is rk start n (omega (arith, c.requires.ranked-fit, c.allocate-start.auto.ranked)) ∙ c.allocate-start.ensures.ranked in
+    let ranks : take (n - start) (drop start rk) ≡ by_rank (ranked_from p 0 os) = rest_is rk start n (omega (arith, c.requires.ranked_fit, c.allocate-start.auto.ranked)) ∙ c.allocate-start.ensures.ranked in
     record {
       places = subst (All (λ (r : Ranked). r.place < n)) (sym ranks) (places_inside p os n (omega arith));
       even = search rules;
@@ -52,9 +52,9 @@ scatter-requires g c =
     let n = length os in
     let start = c.allocate-start.result in
     let rk = c.allocate-start.new.ranked in
-    let ranks : take (n - start) (drop start rk) ≡ by_rank (ranked_from p 0 os) = rest_is rk start n (omega (arith, c.requires.ranked-fit, c.allocate-start.auto.ranked)) ∙ c.allocate-start.ensures.ranked in
+    let ranks : take (n - start) (drop start rk) ≡ by_rank (ranked_from p 0 os) = rest_is rk start n (omega (arith, c.requires.ranked_fit, c.allocate-start.auto.ranked)) ∙ c.allocate-start.ensures.ranked in
     record {
-      places = subst (All (λ (r : Ranked). r.place < length c.args.fills.now)) (sym ranks) (places_inside p os (length c.args.fills.now) (omega (arith, c.requires.fills-fit)));
+      places = subst (All (λ (r : Ranked). r.place < length c.args.fills.now)) (sym ranks) (places_inside p os (length c.args.fills.now) (omega (arith, c.requires.fills_fit)));
       even = search rules;
     }
 
@@ -70,14 +70,14 @@ returns g c =
     let t = a.taker.taking in
     let rule = g.R.SharingRule.shared a.rule.now in
     let f : Order → ℕ = fill rule (filter p os) t.amount.count t.marked t.guarantee.count in
-    let ranks : take (n - start) (drop start rk) ≡ by_rank (ranked_from p 0 os) = rest_is rk start n (omega (arith, c.requires.ranked-fit, c.allocate-start.auto.ranked)) ∙ c.allocate-start.ensures.ranked in
-    let shares : counts (take (n - start) (drop start sh)) ≡ map f (by_priority (filter p os)) = ap counts (rest_is sh start n (omega (arith, c.requires.shares-fit, c.allocate-start.auto.shares))) ∙ c.allocate-start.ensures.shares in
+    let ranks : take (n - start) (drop start rk) ≡ by_rank (ranked_from p 0 os) = rest_is rk start n (omega (arith, c.requires.ranked_fit, c.allocate-start.auto.ranked)) ∙ c.allocate-start.ensures.ranked in
+    let shares : counts (take (n - start) (drop start sh)) ≡ map f (by_priority (filter p os)) = ap counts (rest_is sh start n (omega (arith, c.requires.shares_fit, c.allocate-start.auto.shares))) ∙ c.allocate-start.ensures.shares in
     let part = take (n - start) (drop start rk) in
     let given-shares = take (n - start) (drop start sh) in
     let rows = rows_are p f os part given-shares ranks shares a.taker.side a.taker.number in
     record {
-      counted = c.write-trades-count.ensures.counted ∙ ap length rows;
-      written = c.write-trades-count.ensures.written ∙ ap (λ rs. rs ++ drop c.write-trades-count.result a.rows.now) rows;
-      few = omega (arith, c.write-trades-count.ensures.few, ap length ranks, ranks_few p os);
+      counted = c.write_trades-count.ensures.counted ∙ ap length rows;
+      written = c.write_trades-count.ensures.written ∙ ap (λ rs. rs ++ drop c.write_trades-count.result a.rows.now) rows;
+      few = omega (arith, c.write_trades-count.ensures.few, ap length ranks, ranks_few p os);
       filled = c.scatter.ensures ∙ (λ i. scattered (ranks i) (shares i) (counts a.fills.now));
     }

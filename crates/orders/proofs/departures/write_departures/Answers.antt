@@ -25,5 +25,5 @@ returns c =
     let fits : length rs ≤ length a.rows.now = omega (arith, length-map (filter p a.orders.now) (departure_row a.departure), length-filter p a.orders.now, c.count.ensures, c.if-rows-count.false) in
     record {
       answer_is = sym (cond-false (ltb (length a.rows.now) (length rs)) (Some 7) None (le-ltb (length a.rows.now) (length rs) fits));
-      rows_are = (c.write-rows.ensures.counted, c.write-rows.ensures.written);
+      rows_are = (c.write_rows.ensures.counted, c.write_rows.ensures.written);
     }

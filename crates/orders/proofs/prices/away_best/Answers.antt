@@ -15,7 +15,7 @@ loop-i-preserved c =
     let j : ℕ = l.i - 1 in
     let e : l.i ≡ j + 1 = omega arith in
     let inv : cents l.best ≡ away_best s (drop (j + 1) qs) = l.invariant ∙ ap (λ (k : ℕ). away_best s (drop k qs)) e in
-    c.better-price-best.ensures
+    c.better_price-best.ensures
     ∙ ap (λ (q : Option ℕ). better_price s q (cents l.best)) c.quoted.ensures
     ∙ ap (better_price s (quoted s (get_or qs j no_quote))) inv
     ∙ sym (at_drop_more (away_best s) qs j no_quote (omega arith))

@@ -23,7 +23,7 @@ loop-i-preserved-then-passes c =
     let p : Order → Bool = passes (BookContra s) in
     let e : l.i ≡ j + 1 = omega arith in
     let inv : cents l.best ≡ book_best s (drop (j + 1) os) = l.invariant ∙ ap (λ (k : ℕ). book_best s (drop k os)) e in
-    c.better-price-best.ensures
+    c.better_price-best.ensures
     ∙ ap (λ (q : ℕ). better_price s (Some q) (cents l.best)) c.price.ensures
     ∙ ap (better_price s (Some (price_of o.kind))) inv
     ∙ sym (ap (λ (xs : List Order). best_among s (map (λ (x : Order). Some (price_of x.kind)) xs)) (cond-true (p o) (o ∷ filter p (drop (j + 1) os)) (filter p (drop (j + 1) os)) (sym c.if-passes.ensures)))

@@ -7,8 +7,8 @@ use Rattle.orders.proofs.Walks.{kept_sum_yes, kept_sum_no, kept_sum_small}
 use Rattle.orders.proofs.select.volume.Goals as goal
 use Rattle.orders.proofs.select.volume.Goals.{then-passes, else-passes}
 
-pub overflow-add-sum : goal.overflow-add-sum
-overflow-add-sum c =
+pub overflow_add-sum : goal.overflow_add-sum
+overflow_add-sum c =
     let l = c.loop-order in
     let os = c.args.orders.now in
     let p = passes c.args.filter in

@@ -12,8 +12,8 @@ use Rattle.orders.proofs.Settling.{settles_some, settles_none, settles_all}
 use Rattle.orders.proofs.settle.settle.Goals as goal
 use Rattle.orders.proofs.settle.settle.Goals.{then-after-gt0, else-after-gt0}
 
-pub take-fill-after-requires : goal.take-fill-after-requires
-take-fill-after-requires c = All-get_or (λ (o : Order). sound_record o ≡ true) c.args.orders.now c.loop-i.i no_order c.loop-i-test.true c.requires.sound
+pub take_fill-after-requires : goal.take_fill-after-requires
+take_fill-after-requires c = All-get_or (λ (o : Order). sound_record o ≡ true) c.args.orders.now c.loop-i.i no_order c.loop-i-test.true c.requires.sound
 
 pub loop-i-preserved : goal.loop-i-preserved
 loop-i-preserved c =
@@ -22,8 +22,8 @@ loop-i-preserved c =
     let p = passes a.filter in
     let o = get_or a.orders.now l.i no_order in
     let g : ℕ → Order → Order = λ k. traded_by p (get_or (counts a.fills.now) k 0) in
-    let x = c.take-fill-after.result in
-    let is : x ≡ g l.i o = c.take-fill-after.ensures ∙ ap (λ n. traded_by p n o) c.fill-at-fill.ensures in
+    let x = c.take_fill-after.result in
+    let is : x ≡ g l.i o = c.take_fill-after.ensures ∙ ap (λ n. traded_by p n o) c.fill_at-fill.ensures in
     let room = c.requires.room in
     let behind = l.invariant.behind in
     elim c.if-after-gt0.branch [

@@ -9,4 +9,4 @@ push-requires c =
     let o = c.args.order in
     let e : o.number ≡ t.next = omega arith in
     let lt : t.next < 65536 = omega arith in
-    record { unused = e; live = live_push (orders t) t.next (table_live t) o e lt (sym c.if-not-is-sound.ensures) (sym c.if-not-has-room.ensures) }
+    record { unused = e; live = live_push (orders t) t.next (table_live t) o e lt (sym c.if-not-is_sound.ensures) (sym c.if-not-has_room.ensures) }

@@ -9,8 +9,8 @@ use Rattle.orders.proofs.table.Table.push.Goals as goal
 room : (records : List Order) (count next : ℕ) (o : Order) → count ≤ length records → Live (take count records ++ (o ∷ [])) next → count + 1 ≤ 161
 room records count next o le l = let few = l.few in omega (arith, length-append (take count records) (o ∷ []), length-take-le count records le)
 
-pub offset-bounds-records-self : goal.offset-bounds-records-self
-offset-bounds-records-self c =
+pub offset_bounds-records-self : goal.offset_bounds-records-self
+offset_bounds-records-self c =
     let t = c.args.self.now in
     let few = t.few in
     let long = t.long in
@@ -23,8 +23,8 @@ bounds-records-self c =
     let long = t.long in
     omega (arith, room t.records t.count (t.next + 1) c.args.order (omega arith) c.requires.live)
 
-pub invariant-of-self : goal.invariant-of-self
-invariant-of-self c =
+pub invariant_of-self : goal.invariant_of-self
+invariant_of-self c =
     let t = c.args.self.now in
     let o = c.args.order in
     let live = take t.count t.records in
@@ -34,16 +34,16 @@ invariant-of-self c =
     let e = take_more_set t.records t.count o (omega arith) in
     let grown : Live (take (t.count + 1) (set t.records t.count o)) (o.number + 1) =
     subst (λ (n : ℕ). Live (take (t.count + 1) (set t.records t.count o)) (n + 1)) (sym c.requires.unused) (subst (λ (xs : List Order). Live xs (t.next + 1)) (sym e) c.requires.live) in
-    let fine : sound_record o ≡ true = all-has (λ (x : Order). sound_record x ≡ true) (live ++ (o ∷ [])) o c.requires.live.sound (has_push live o) in (
-      length-set t.records t.count o ∙ t.long,
-      (
-        omega arith,
-        (
-          all_passes sound_record (set t.records t.count o) (All-set (λ (x : Order). sound_record x ≡ true) t.records t.count o fine (pass_all sound_record t.records t.sound)),
-          (grown.rising, (grown.books, (grown.rivals, (grown.customer, (grown.numbers, tt))))),
-        ),
-      ),
-    )
+    let fine : sound_record o ≡ true = all-has (λ (x : Order). sound_record x ≡ true) (live ++ (o ∷ [])) o c.requires.live.sound (has_push live o) in record {
+      long = length-set t.records t.count o ∙ t.long;
+      few = omega arith;
+      sound = all_passes sound_record (set t.records t.count o) (All-set (λ (x : Order). sound_record x ≡ true) t.records t.count o fine (pass_all sound_record t.records t.sound));
+      rising = grown.rising;
+      books = grown.books;
+      rivals = grown.rivals;
+      customer = grown.customer;
+      numbers = grown.numbers;
+    }
 
 pub returns : goal.returns
 returns c =

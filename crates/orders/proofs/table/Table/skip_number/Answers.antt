@@ -3,7 +3,16 @@ use Rattle.orders.specs.Orders.{orders}
 use Rattle.orders.proofs.Records.{rises_wider}
 use Rattle.orders.proofs.table.Table.skip_number.Goals as goal
 
-pub invariant-of-self : goal.invariant-of-self
-invariant-of-self c =
+pub invariant_of-self : goal.invariant_of-self
+invariant_of-self c =
     let t = c.args.self.now in
-    (t.long, (t.few, (t.sound, (rises_wider 0 0 (orders t) (t.next + 1) t.next (omega arith) (omega arith) t.rising, (t.books, (t.rivals, (t.customer, (omega arith, tt))))))))
+    record {
+      long = t.long;
+      few = t.few;
+      sound = t.sound;
+      rising = rises_wider 0 0 (orders t) (t.next + 1) t.next (omega arith) (omega arith) t.rising;
+      books = t.books;
+      rivals = t.rivals;
+      customer = t.customer;
+      numbers = omega arith;
+    }
