@@ -1,6 +1,6 @@
 -- The levels of ranked orders, as the code finds them.
 use Rattle.std.proofs.Common.{◌≡◌, ℕ, zero, suc, ◌*◌, ◌<◌, ◌≤◌, List, [], ◌∷◌, map, length, get_or, take, drop, sum_by, sum, sym, ap, ◌∙◌, subst, arith}
-use Rattle.std.specs.List.{AllByRecursion as All}
+use Rattle.std.specs.List.{AllByRecursion}
 use Rattle.std.proofs.ByRecursion.{All-get_or, All-take, All-drop, sum_by_le}
 use Rattle.std.proofs.lemmas.List.{get_or-map, length-map, length-take, take-map, drop-map}
 use Rattle.std.proofs.lemmas.List.Sums.{sum-map}
@@ -18,14 +18,14 @@ use Rattle.book.proofs.Sorting.{no_rank}
 pub map_part : {X Y : Type 0} (f : X → Y) (from n : ℕ) (xs : List X) → map f (take n (drop from xs)) ≡ take n (drop from (map f xs))
 map_part f from n xs = sym (take-map f n (drop from xs)) ∙ ap (take n) (sym (drop-map f from xs))
 
-module _ (os : List Order) (rs : List Ranked) (ranks : All (TrueRank os) rs) where
+module _ (os : List Order) (rs : List Ranked) (ranks : AllByRecursion (TrueRank os) rs) where
   pub rank_priority : (k : ℕ) → k < length rs → priority_at_place rs k ≡ priority (get_or (orders_at os rs) k no_order)
   rank_priority k lt = (All-get_or (TrueRank os) rs k no_rank lt ranks).same ∙ ap priority (sym (get_or-map (at os) rs k no_rank no_order lt))
 
   pub level_found : (from to : ℕ) → from < to → to ≤ length rs →
       ((k : ℕ) → from ≤ k → k < to → priority_at_place rs k ≡ priority_at_place rs from) →
       (to < length rs → priority_at_place rs to ≡ priority_at_place rs from → ⊥) →
-      All (λ o. priority o < priority (get_or (orders_at os rs) from no_order)) (take from (orders_at os rs)) →
+      AllByRecursion (λ o. priority o < priority (get_or (orders_at os rs) from no_order)) (take from (orders_at os rs)) →
       Level (orders_at os rs) from to
   level_found from to some inside same apart before =
       let long = length-map rs (at os) in
@@ -39,14 +39,14 @@ module _ (os : List Order) (rs : List Ranked) (ranks : All (TrueRank os) rs) whe
       }
 
 -- what the first orders hold
-pub few_contracts : (ys : List Order) (n : ℕ) → length ys ≤ 160 → All (λ o. standing o ≤ 9999) ys → sum_by standing (take n ys) ≤ 1599840
+pub few_contracts : (ys : List Order) (n : ℕ) → length ys ≤ 160 → AllByRecursion (λ o. standing o ≤ 9999) ys → sum_by standing (take n ys) ≤ 1599840
 few_contracts ys n few small =
     bounded (length (take n ys)) (sum_by standing (take n ys)) (omega (arith, length-take n ys)) (sum_by_le standing 9999 (take n ys) (All-take (λ o. standing o ≤ 9999) n ys small))
   where
     bounded : (m s : ℕ) → m ≤ 160 → s ≤ m * 9999 → s ≤ 1599840
     bounded m s le h = omega arith
 
-pub claims_small : (os : List Order) → All (λ o. standing o ≤ 9999) os → (k : ℕ) → get_or (map standing os) k 0 ≤ 9999
+pub claims_small : (os : List Order) → AllByRecursion (λ o. standing o ≤ 9999) os → (k : ℕ) → get_or (map standing os) k 0 ≤ 9999
 claims_small [] h k = omega arith
 claims_small (o ∷ os) h zero = h.0
 claims_small (o ∷ os) h (suc k) = claims_small os h.1 k
@@ -63,10 +63,10 @@ module _ (os : List Order) (rs : List Ranked) (claims : List Contracts) (claimed
       ∙ sym (map_part standing from n (orders_at os rs))
       ∙ ap (map standing) (sym part_orders)
 
-  pub part_small : All (λ o. standing o ≤ 9999) (orders_at os rs) → (k : ℕ) → get_or (counts (take n (drop from claims))) k 0 ≤ 9999
+  pub part_small : AllByRecursion (λ o. standing o ≤ 9999) (orders_at os rs) → (k : ℕ) → get_or (counts (take n (drop from claims))) k 0 ≤ 9999
   part_small small k =
       subst (λ xs. get_or xs k 0 ≤ 9999) (sym part_claimed)
-      (claims_small (orders_at os (take n (drop from rs))) (subst (All (λ o. standing o ≤ 9999)) (sym part_orders) (All-take (λ o. standing o ≤ 9999) n (drop from (orders_at os rs)) (All-drop (λ o. standing o ≤ 9999) from (orders_at os rs) small))) k)
+      (claims_small (orders_at os (take n (drop from rs))) (subst (AllByRecursion (λ o. standing o ≤ 9999)) (sym part_orders) (All-take (λ o. standing o ≤ 9999) n (drop from (orders_at os rs)) (All-drop (λ o. standing o ≤ 9999) from (orders_at os rs) small))) k)
 
   pub part_held : sum (counts (take n (drop from claims))) ≡ sum_by standing (take n (drop from (orders_at os rs)))
   part_held = ap sum (part_claimed ∙ ap (map standing) part_orders) ∙ sum-map standing (take n (drop from (orders_at os rs)))

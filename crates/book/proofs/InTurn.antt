@@ -1,7 +1,7 @@
 -- Buyers and sellers paired: the k-th contract bought is the k-th contract sold, as one pairs the first unpaired buyer
 -- with the first unpaired seller.
 use Rattle.std.proofs.Common.{◌≡◌, ℕ, suc, ◌+◌, ◌-◌, ◌<◌, ◌≤◌, min, cond, ltb, leb, List, [], ◌∷◌, ◌++◌, length, sym, refl, ap, ◌∙◌, subst, ap₂, ⊎_elim, arith}
-use Rattle.std.specs.List.{flat_map, AllByRecursion as All}
+use Rattle.std.specs.List.{flat_map, AllByRecursion}
 use Rattle.std.proofs.ByRecursion.{All-weaker}
 use Rattle.std.proofs.lemmas.List.{append-nil, append_assoc, length-append}
 use Rattle.std.proofs.lemmas.Bool.{cond_both, cond-true, cond-false, leb-true, leb-false, le-leb, lt-leb, cases_lt}
@@ -12,11 +12,11 @@ use Rattle.rules.specs.Opening.{intervals, overlap, paired}
 
 -- ---- lists of lists
 
-joined_same : {X A : Type 0} (f g : X → List A) (xs : List X) → All (λ x. f x ≡ g x) xs → flat_map f xs ≡ flat_map g xs
+joined_same : {X A : Type 0} (f g : X → List A) (xs : List X) → AllByRecursion (λ x. f x ≡ g x) xs → flat_map f xs ≡ flat_map g xs
 joined_same f g [] h = refl
 joined_same f g (x ∷ xs) h = ap₂ ◌++◌ h.0 (joined_same f g xs h.1)
 
-joined_none : {X A : Type 0} (f : X → List A) (xs : List X) → All (λ x. f x ≡ []) xs → flat_map f xs ≡ []
+joined_none : {X A : Type 0} (f : X → List A) (xs : List X) → AllByRecursion (λ x. f x ≡ []) xs → flat_map f xs ≡ []
 joined_none f [] h = refl
 joined_none f (x ∷ xs) h = ap₂ ◌++◌ h.0 (joined_none f xs h.1)
 
@@ -44,7 +44,7 @@ pair_up p (b ∷ bs) ss = served p b.0 b.1 (pair_up p bs) ss
 
 -- ---- the intervals lie one after another
 
-later : (low at : ℕ) (xs : List (ℕ × ℕ)) → low ≤ at → All (λ s. low ≤ s.1) (intervals at xs)
+later : (low at : ℕ) (xs : List (ℕ × ℕ)) → low ≤ at → AllByRecursion (λ s. low ≤ s.1) (intervals at xs)
 later low at [] l = tt
 later low at (x ∷ xs) l = (l, later low (at + x.1) xs (omega arith))
 

@@ -1,6 +1,6 @@
 -- One level of a sorted list of orders, and the shares of each level in turn.
 use Rattle.std.proofs.Common.{◌≡◌, ℕ, zero, suc, ◌+◌, ◌-◌, ◌<◌, ◌≤◌, true, false, eqb, ltb, List, [], ◌∷◌, ◌++◌, map, length, get_or, take, drop, Some, None, sum_by, filter, Option, sym, refl, ap, ◌∙◌, subst, ⊎_elim, add-one, arith}
-use Rattle.std.specs.List.{AllByRecursion as All}
+use Rattle.std.specs.List.{AllByRecursion}
 use Rattle.std.proofs.lemmas.List.Elements.{filter-append}
 use Rattle.std.proofs.ByRecursion.{All-weaker, All-get_or, All-from_get_or}
 use Rattle.std.proofs.lemmas.List.{append-nil, length-append, map-append, drop-drop, get_or-take, get_or-drop, length-drop, length-take-le, take-append-drop, take-take}
@@ -36,7 +36,7 @@ sorted_at (y ∷ ys) (suc i) (suc j) s le lt = sorted_at ys i j s.1 (omega arith
 pub record Level (ys : List Order) (from to : ℕ) : Type 0 where
   pub some : from < to
   pub inside : to ≤ length ys
-  pub before : All (λ o. priority o < priority (get_or ys from no_order)) (take from ys)
+  pub before : AllByRecursion (λ o. priority o < priority (get_or ys from no_order)) (take from ys)
   pub same : (k : ℕ) → from ≤ k → k < to → priority (get_or ys k no_order) ≡ priority (get_or ys from no_order)
   pub apart : to < length ys → priority (get_or ys to no_order) ≡ priority (get_or ys from no_order) → ⊥
 
@@ -56,11 +56,11 @@ module _ (ys : List Order) (from to : ℕ) (s : Sorted ys) (l : Level ys from to
       sym (take-append-drop from ys)
       ∙ ap (λ zs. take from ys ++ zs) (sym (take-append-drop (to - from) (drop from ys)) ∙ ap (λ zs. part ++ zs) (drop-drop (to - from) from ys ∙ ap (λ k. drop k ys) e))
 
-  pub part_same : All (λ o. priority o ≡ r) part
+  pub part_same : AllByRecursion (λ o. priority o ≡ r) part
   part_same = All-from_get_or (λ o. priority o ≡ r) part no_order
       (λ i lt. ap priority (get_or-take (to - from) (drop from ys) i no_order (omega (arith, part_length)) ∙ get_or-drop from ys i no_order) ∙ l.same (from + i) (omega arith) (omega (arith, part_length)))
 
-  after : All (λ o. r < priority o) (drop to ys)
+  after : AllByRecursion (λ o. r < priority o) (drop to ys)
   after = All-from_get_or (λ o. r < priority o) (drop to ys) no_order
       (λ i lt. subst (λ o. r < priority o) (sym (get_or-drop to ys i no_order))
       (later i (omega (arith, length-drop to ys))))
@@ -92,7 +92,7 @@ module _ (ys : List Order) (from to : ℕ) (s : Sorted ys) (l : Level ys from to
       ++ kept_none (λ o. ltb (priority o) r) (drop to ys) (All-weaker (λ o. r < priority o) (λ o. ltb (priority o) r ≡ false) (λ o k. le-ltb (priority o) r (omega arith)) (drop to ys) after) i))
       ∙ append-nil (take from ys))
 
-  pub before_next : to < length ys → All (λ o. priority o < priority (get_or ys to no_order)) (take to ys)
+  pub before_next : to < length ys → AllByRecursion (λ o. priority o < priority (get_or ys to no_order)) (take to ys)
   before_next lt = All-from_get_or (λ o. priority o < priority (get_or ys to no_order)) (take to ys) no_order
       (λ i k. subst (λ o. priority o < priority (get_or ys to no_order)) (sym (get_or-take to ys i no_order (omega (arith, length-take-le to ys l.inside))))
       (earlier i (omega (arith, length-take-le to ys l.inside))))
@@ -114,7 +114,7 @@ module _ (ys : List Order) (from to : ℕ) (s : Sorted ys) (l : Level ys from to
 
 -- ---- shares by number are shares by place
 
-pub map_same : {X Y : Type 0} (f g : X → Y) (xs : List X) → All (λ x. f x ≡ g x) xs → map f xs ≡ map g xs
+pub map_same : {X Y : Type 0} (f g : X → Y) (xs : List X) → AllByRecursion (λ x. f x ≡ g x) xs → map f xs ≡ map g xs
 map_same f g [] h = refl
 map_same f g (x ∷ xs) h = (λ i. h.0 i ∷ map_same f g xs h.1 i)
 
@@ -150,7 +150,7 @@ module _ (rule : Sharing) (ys : List Order) (amount : ℕ) (marked : Option ℕ)
   pub record Allocating (shares : List Contracts) (from ahead : ℕ) : Type 0 where
     pub done : counts (take from shares) ≡ map (fill rule ys amount marked g) (take from ys)
     pub sum : ahead ≡ sum_by standing (take from ys)
-    pub first : from < length ys → All (λ o. priority o < priority (get_or ys from no_order)) (take from ys)
+    pub first : from < length ys → AllByRecursion (λ o. priority o < priority (get_or ys from no_order)) (take from ys)
     pub inside : from ≤ length ys
     pub long : length shares ≡ length ys
 

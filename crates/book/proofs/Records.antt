@@ -1,6 +1,6 @@
 -- Laws of the list of live records.
 use Rattle.std.proofs.Common.{◌≡◌, ℕ, ◌+◌, ◌<◌, ◌≤◌, Bool, true, cond, not, ◌||◌, eqb, ltb, leb, List, [], ◌∷◌, ◌++◌, map, length, count_by, filter, sym, refl, ap, subst, arith, length-take}
-use Rattle.std.specs.List.{list_all, AllByRecursion as All}
+use Rattle.std.specs.List.{list_all, AllByRecursion}
 use Rattle.std.proofs.ByRecursion.{All-append, all_kept_by, All-weaker, All-take}
 use Rattle.std.proofs.lemmas.List.{length-append}
 use Rattle.std.proofs.lemmas.List.Sums.{sum_by-append, sum_by-cons, count_by-le-length, length-filter}
@@ -16,11 +16,11 @@ use Rattle.book.specs.Records.{balanced, booked, auction_contra, customers, rise
 use Rattle.book.specs.declared.table.Table.{Table}
 
 module _ {X : Type 0} (p : X → Bool) where
-  pub pass_all : (xs : List X) → list_all p xs ≡ true → All (λ x. p x ≡ true) xs
+  pub pass_all : (xs : List X) → list_all p xs ≡ true → AllByRecursion (λ x. p x ≡ true) xs
   pass_all [] h = tt
   pass_all (x ∷ xs) h = let b = and_parts (p x) (list_all p xs) h in (b.0, pass_all xs b.1)
 
-  pub all_passes : (xs : List X) → All (λ x. p x ≡ true) xs → list_all p xs ≡ true
+  pub all_passes : (xs : List X) → AllByRecursion (λ x. p x ≡ true) xs → list_all p xs ≡ true
   all_passes [] h = refl
   all_passes (x ∷ xs) h = and_from (p x) (list_all p xs) h.0 (all_passes xs h.1)
 
@@ -112,7 +112,7 @@ room_left os next l lt =
     let customer = l.customer in
     omega (arith, count_three os)
 
-pub live_small : (os : List Order) (next : ℕ) → Live os next → All (λ o. standing o ≤ 9999) os
+pub live_small : (os : List Order) (next : ℕ) → Live os next → AllByRecursion (λ o. standing o ≤ 9999) os
 live_small os next l = All-weaker (λ (o : Order). balanced o ≡ true) (λ (o : Order). standing o ≤ 9999) small_left os l.sound
 
 pub live_later : (os : List Order) (next : ℕ) → Live os next → next < 65536 → Live os (next + 1)

@@ -1,6 +1,6 @@
 -- A loop that writes shares to the places of their orders, and what stands at each place then.
 use Rattle.std.proofs.Common.{◌≡◌, ℕ, zero, suc, ◌+◌, ◌<◌, ◌≤◌, Bool, true, false, cond, ◌||◌, eqb, leb, List, [], ◌∷◌, map, length, get_or, drop, set, filter, sym, refl, ap, ◌∙◌, subst, arith}
-use Rattle.std.specs.List.{AllByRecursion as All}
+use Rattle.std.specs.List.{AllByRecursion}
 use Rattle.std.proofs.ByRecursion.{All-weaker, All-get_or}
 use Rattle.std.proofs.lemmas.List.{at_drop_more, at_drop_all, get_or-set_same, get_or-set_other, length-set}
 use Rattle.std.proofs.lemmas.Bool.{eq-eqb, eqb-true, eqb-false, ne_eqb, or_from}
@@ -77,7 +77,7 @@ pub among_by_rank : (k : ℕ) (rs : List Ranked) → among k (by_rank rs) ≡ am
 among_by_rank k [] = refl
 among_by_rank k (x ∷ rs) = among_insert k x (by_rank rs) ∙ ap (λ (b : Bool). eqb x.place k || b) (among_by_rank k rs)
 
-pub among_none : (k : ℕ) (rs : List Ranked) → All (λ r. r.place ≡ k → ⊥) rs → among k rs ≡ false
+pub among_none : (k : ℕ) (rs : List Ranked) → AllByRecursion (λ r. r.place ≡ k → ⊥) rs → among k rs ≡ false
 among_none k [] h = refl
 among_none k (r ∷ rs) h = or_from (eqb r.place k) (among k rs) (ne_eqb r.place k h.0) (among_none k rs h.1)
 
@@ -124,7 +124,7 @@ module _ (p : Order → Bool) where
       among_none k (by_rank (ranked_from p 0 os)) (All-weaker (TrueRank os) (λ r. r.place ≡ k → ⊥) (λ r t e. (let lt = t.inside in omega arith)) (by_rank (ranked_from p 0 os)) (ranks_true p os))
 
   -- the ranked places lie in a list as long as the orders
-  pub places_inside : (os : List Order) (n : ℕ) → length os ≤ n → All (λ r. r.place < n) (by_rank (ranked_from p 0 os))
+  pub places_inside : (os : List Order) (n : ℕ) → length os ≤ n → AllByRecursion (λ r. r.place < n) (by_rank (ranked_from p 0 os))
   places_inside os n le = All-weaker (TrueRank os) (λ r. r.place < n) (λ r t. (let lt = t.inside in omega arith)) (by_rank (ranked_from p 0 os)) (ranks_true p os)
 
   -- ---- so the fills are those of the orders that pass, and the others are as they were
@@ -151,7 +151,7 @@ module _ (p : Order → Bool) where
         settled_is p f os fills_after (e ∙ sym (scattered_length (by_rank (ranked_from p 0 os)) (map f (by_priority (filter p os))) fills)) (fill_passed e)
 
     -- what each order that passes trades is at most what stands of it, so its fill is
-    pub fills_covered : length os ≡ length fills → All (λ o. f o ≤ standing o) (filter p os) →
+    pub fills_covered : length os ≡ length fills → AllByRecursion (λ o. f o ≤ standing o) (filter p os) →
         (k : ℕ) → k < length os → p (get_or os k no_order) ≡ true → get_or fills_after k 0 ≤ standing (get_or os k no_order)
     fills_covered e bound k lt t =
         subst (λ (n : ℕ). n ≤ standing (get_or os k no_order)) (sym (fill_passed e k lt t))

@@ -1,6 +1,6 @@
 -- What a taker takes, from what each step of the code leaves.
 use Rattle.std.proofs.Common.{◌≡◌, ℕ, ◌-◌, ◌<◌, ◌≤◌, Bool, true, cond, List, map, length, get_or, take, drop, filter, sym, ap, ◌∙◌, subst, arith}
-use Rattle.std.specs.List.{AllByRecursion as All}
+use Rattle.std.specs.List.{AllByRecursion}
 use Rattle.std.proofs.ByRecursion.{all_kept_by}
 use Rattle.std.proofs.lemmas.List.{length-drop, length-map, take_all}
 use Rattle.market.specs.Words.{standing}
@@ -50,7 +50,7 @@ module _ (p : Order → Bool) (f : Order → ℕ) (os : List Order) (ranked : Li
     long : length os ≡ length (counts before)
     long = fit ∙ sym (length_counts before)
 
-    pub covered : All (λ o. f o ≤ standing o) (filter p os) → (k : ℕ) → k < length os → p (get_or os k no_order) ≡ true → get_or (counts after) k 0 ≤ standing (get_or os k no_order)
+    pub covered : AllByRecursion (λ o. f o ≤ standing o) (filter p os) → (k : ℕ) → k < length os → p (get_or os k no_order) ≡ true → get_or (counts after) k 0 ≤ standing (get_or os k no_order)
     covered bound k lt t = subst (λ (xs : List ℕ). get_or xs k 0 ≤ standing (get_or os k no_order)) (sym fills_are) (fills_covered p f os (counts before) long bound k lt t)
 
     pub left_is : settled p os (counts after) ≡ live (map (λ o. cond (p o) (after_trade (f o) o) o) os)

@@ -1,6 +1,6 @@
 -- What the table of order records keeps.
 use Rattle.std.specs.Prelude.{◌≡◌, ℕ, ◌+◌, ◌≤◌, Bool, true, not, ◌&&◌, ◌||◌, List, [], ◌∷◌, length, count_by, ◌==◌, nat_le, nat_lt}
-use Rattle.std.specs.List.{AllByRecursion as All}
+use Rattle.std.specs.List.{AllByRecursion}
 use Rattle.market.specs.Words.{in_book, auctioned}
 use Rattle.market.specs.declared.order.Order.{Order}
 
@@ -27,7 +27,7 @@ auction_contra o = not (in_book o.role || auctioned o.role)
 -- a list of live records with the next number
 pub record Live (os : List Order) (next : ℕ) : Type 0 where
   pub few : length os ≤ 161
-  pub sound : All (λ o. balanced o ≡ true) os
+  pub sound : AllByRecursion (λ o. balanced o ≡ true) os
   pub rising : rises 0 os next ≡ true
   pub books : count_by booked os ≤ 128
   pub rivals : count_by auction_contra os ≤ 32

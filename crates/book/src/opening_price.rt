@@ -1,6 +1,6 @@
 // The theoretical opening price.
 ghost use Rattle.std.specs.Prelude.{◌≡◌, ◌+◌, ◌-◌, ◌<◌, ◌≤◌, [], ◌∷◌, length, fold};
-ghost use Rattle.std.specs.List.{AllByRecursion as All};
+ghost use Rattle.std.specs.List.{AllByRecursion};
 ghost use Rattle.market.specs.Words.{standing, price_of};
 ghost use Rattle.rules.specs.Volume.{of_order};
 ghost use Rattle.rules.specs.Volume as model;
@@ -43,7 +43,7 @@ struct Search {
 // What buyers would take at a price: all Market-on-Opening buys and the buys limited there or higher.
 pub fn demand(orders: &[Order], price: Cents) -> Contracts
     requires few { length orders.now ≤ 161 }
-    requires small { All (λ o. standing o ≤ 9999) orders.now }
+    requires small { AllByRecursion (λ o. standing o ≤ 9999) orders.now }
     ensures { result.count ≡ model.demand of_order orders.now price.value }
 {
     volume(orders, Filter::Willing(Side::Buy, price))
@@ -52,7 +52,7 @@ pub fn demand(orders: &[Order], price: Cents) -> Contracts
 // What sellers would give at a price: all Market-on-Opening sells and the sells limited there or lower.
 pub fn supply(orders: &[Order], price: Cents) -> Contracts
     requires few { length orders.now ≤ 161 }
-    requires small { All (λ o. standing o ≤ 9999) orders.now }
+    requires small { AllByRecursion (λ o. standing o ≤ 9999) orders.now }
     ensures { result.count ≡ model.supply of_order orders.now price.value }
 {
     volume(orders, Filter::Willing(Side::Sell, price))
@@ -173,7 +173,7 @@ fn tried_limits(opening: &Opening, ladder: &Ladder, search: Search) -> Search
     requires ready { Ready opening.now }
     requires sound { Sound opening.now search }
     requires inside { ladder.now.first ≤ 161 }
-    requires span { All (λ s. s.price ≤ 99999) (rungs ladder.now) }
+    requires span { AllByRecursion (λ s. s.price ≤ 99999) (rungs ladder.now) }
     ensures { Tried opening.now search result (around_steps (rungs ladder.now)) }
 {
     let mut best = search;
@@ -203,8 +203,8 @@ fn begun(opening: &Opening) -> Search
 fn found(opening: &Opening) -> Candidate
     requires ready { Ready opening.now }
     requires close { opening.now.close ≤ 99999 }
-    requires buys { All (λ s. s.price ≤ 99999) (rungs opening.now.buys) }
-    requires sells { All (λ s. s.price ≤ 99999) (rungs opening.now.sells) }
+    requires buys { AllByRecursion (λ s. s.price ≤ 99999) (rungs opening.now.buys) }
+    requires sells { AllByRecursion (λ s. s.price ≤ 99999) (rungs opening.now.sells) }
     ensures rated { Rated opening.now result }
     ensures price { result.price ≡ fold (better_on opening.now) 5 (candidates opening.now) }
 {
@@ -218,8 +218,8 @@ fn found(opening: &Opening) -> Candidate
 // The opening price with its quantity, none where no price trades.
 pub fn top(orders: &[Order], close: Cents) -> Option<(u32, u32)>
     requires few { length orders.now ≤ 161 }
-    requires small { All (λ o. standing o ≤ 9999) orders.now }
-    requires prices { All (λ o. price_of o.kind ≤ 99999) orders.now }
+    requires small { AllByRecursion (λ o. standing o ≤ 9999) orders.now }
+    requires prices { AllByRecursion (λ o. price_of o.kind ≤ 99999) orders.now }
     requires close { close.value ≤ 99999 }
     ensures { result ≡ openings.top orders.now close.value }
 {

@@ -1,6 +1,6 @@
 // Filters on orders, and walks over a list of orders by one of them.
 ghost use Rattle.std.specs.Prelude.{◌≡◌, ℕ, ◌≤◌, length, take, sum_by, count_by, filter as kept_by};
-ghost use Rattle.std.specs.List.{AllByRecursion as All};
+ghost use Rattle.std.specs.List.{AllByRecursion};
 ghost use Rattle.market.specs.Words.{standing, price_of};
 ghost use Rattle.rules.specs.Prices.{within};
 ghost use Rattle.rules.specs.Series.{due, found};
@@ -135,7 +135,7 @@ pub fn count(orders: &[Order], filter: Filter) -> usize
 // The contracts that stand of the orders that pass.
 pub fn volume(orders: &[Order], filter: Filter) -> Contracts
     requires few { length orders.now ≤ 161 }
-    requires small { All (λ o. standing o ≤ 9999) orders.now }
+    requires small { AllByRecursion (λ o. standing o ≤ 9999) orders.now }
     ensures { result.count ≡ sum_by standing (kept_by (passes filter) orders.now) }
 {
     let mut sum = 0;

@@ -1,6 +1,6 @@
 // What trades leave of the orders.
 ghost use Rattle.std.specs.Prelude.{◌≡◌, ℕ, ◌<◌, ◌≤◌, true, length, take, slice_index, slice_index_or};
-ghost use Rattle.std.specs.List.{AllByRecursion as All};
+ghost use Rattle.std.specs.List.{AllByRecursion};
 ghost use Rattle.market.specs.Words.{standing};
 ghost use Rattle.rules.specs.Allocation.{after_trade};
 ghost use Rattle.sharing.specs.Asked.{counts};
@@ -16,7 +16,7 @@ use market::units::Contracts;
 
 // Writes each share to the place of its order.
 pub fn scatter(ranked: &[Ranked], shares: &[Contracts], fills: &mut [Contracts])
-    requires places { All (λ r. r.place < length fills.old) ranked.now }
+    requires places { AllByRecursion (λ r. r.place < length fills.old) ranked.now }
     requires even { length ranked.now ≡ length shares.now }
     ensures { counts fills.new ≡ scattered ranked.now (counts shares.now) (counts fills.old) }
 {
@@ -59,7 +59,7 @@ fn take_fill(order: &Order, filter: Filter, fill: Contracts) -> Order
 pub fn settle(orders: &[Order], filter: Filter, fills: &[Contracts], out: &mut [Order]) -> usize
     requires even { length orders.now ≡ length fills.now }
     requires room { length orders.now ≤ length out.old }
-    requires sound { All (λ o. balanced o ≡ true) orders.now }
+    requires sound { AllByRecursion (λ o. balanced o ≡ true) orders.now }
     requires covered { (k : ℕ) → k < length orders.now → passes filter (slice_index_or orders.now k no_order) ≡ true → slice_index (counts fills.now) k ≤ standing (slice_index_or orders.now k no_order) }
     ensures front { take result out.new ≡ settled (passes filter) orders.now (counts fills.now) }
     ensures few { result ≤ length orders.now }

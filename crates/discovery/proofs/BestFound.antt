@@ -1,6 +1,6 @@
 -- What the ladders say of demand and supply, and that the candidates have the opening price among them.
 use Rattle.std.proofs.Common.{◌≡◌, ℕ, ◌+◌, ◌<◌, ◌≤◌, Bool, true, false, cond, ◌&&◌, eqb, ltb, leb, ◌⊎◌, List, [], ◌∷◌, ◌++◌, Some, None, fold, sym, refl, ap, ◌∙◌, subst, inl, inr, ⊎_elim, arith}
-use Rattle.std.specs.List.{ContainsAt as Has, AllByRecursion as All}
+use Rattle.std.specs.List.{ContainsAt as Has, AllByRecursion}
 use Rattle.std.proofs.ByRecursion.{has_append_left, has_append_right}
 use Rattle.std.proofs.lemmas.List.Sums.{sum_by-cons}
 use Rattle.std.proofs.lemmas.Bool.{both_ways, cond-true, cond-false, eqb-true, lt-ltb, le-ltb}
@@ -102,17 +102,17 @@ offered_is os l h q = omega (arith, sells_laid os q, h.market, ap (λ (xs : List
 
 -- ---- the limits of the orders are the prices of the steps
 
-all_with : (P : ℕ → Type 0) (b : Bool) (k : OrderKind) (n : ℕ) (xs : List Step) → P (price_of k) → All (λ (s : Step). P s.price) xs → All (λ (s : Step). P s.price) (with_step b k n xs)
+all_with : (P : ℕ → Type 0) (b : Bool) (k : OrderKind) (n : ℕ) (xs : List Step) → P (price_of k) → AllByRecursion (λ (s : Step). P s.price) xs → AllByRecursion (λ (s : Step). P s.price) (with_step b k n xs)
 all_with P true (Limit l) n xs p h = all_insert (λ s. P s.price) (record { price = l.value; volume = n }) xs p h
 all_with P true MarketOnOpening n xs p h = h
 all_with P false k n xs p h = h
 
-steps_span : (s : Side) (os : List Order) → All (λ o. price_of o.kind ≤ 99999) os → All (λ x. x.price ≤ 99999) (steps_of s os)
+steps_span : (s : Side) (os : List Order) → AllByRecursion (λ o. price_of o.kind ≤ 99999) os → AllByRecursion (λ x. x.price ≤ 99999) (steps_of s os)
 steps_span s [] h = tt
 steps_span s (o ∷ os) h = all_with (λ p. p ≤ 99999) (same_side o.side s) o.kind (standing o) (steps_of s os) h.0 (steps_span s os h.1)
 
-pub laid_span : (s : Side) (os : List Order) (l : Ladder) → Laid s os l → All (λ o. price_of o.kind ≤ 99999) os → All (λ x. x.price ≤ 99999) (rungs l)
-laid_span s os l h k = subst (All (λ x. x.price ≤ 99999)) (sym h.steps) (steps_span s os k)
+pub laid_span : (s : Side) (os : List Order) (l : Ladder) → Laid s os l → AllByRecursion (λ o. price_of o.kind ≤ 99999) os → AllByRecursion (λ x. x.price ≤ 99999) (rungs l)
+laid_span s os l h k = subst (AllByRecursion (λ x. x.price ≤ 99999)) (sym h.steps) (steps_span s os k)
 
 has_inserted : (s : Step) (xs : List Step) → Has (inserted s xs) s
 has_inserted s [] = has_here s [] s refl

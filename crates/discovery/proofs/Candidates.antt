@@ -1,6 +1,6 @@
 -- The opening price lies within one grid step of the close or beside some limit, so few prices need be tried.
 use Rattle.std.proofs.Common.{◌≡◌, ℕ, ◌%◌, ◌<◌, ◌≤◌, min, Bool, true, false, cond, ◌&&◌, ltb, leb, ◌⊎◌, List, [], ◌∷◌, get_or, Some, fold, sum_by, filter, sym, refl, ap, ◌∙◌, subst, ap₂, inl, inr, ⊎_elim, arith}
-use Rattle.std.specs.List.{ContainsAt as Has, AllByRecursion as All, best_of}
+use Rattle.std.specs.List.{ContainsAt as Has, AllByRecursion, best_of}
 use Rattle.std.proofs.lemmas.List.MinMax.{IsFirstBest-from_best_of}
 use Rattle.std.proofs.ByRecursion.{All-from_get_or, all-has, All-weaker, has_get_or, kept_by_passes}
 use Rattle.std.proofs.lemmas.Bool.{cases_Bool, both_ways}
@@ -62,19 +62,19 @@ module _ (q p : ℕ) (a : below q ≤ p) (b : p ≤ above q) where
   side_same Sell Buy k h = refl
   side_same Sell Sell k h = willing_same Sell k q p a b h
 
-  volume_same : (s : Side) (os : List Order) → All (λ o. limit_near q o.side o.kind ≡ false) os → volume of_order s os q ≡ volume of_order s os p
+  volume_same : (s : Side) (os : List Order) → AllByRecursion (λ o. limit_near q o.side o.kind ≡ false) os → volume of_order s os q ≡ volume of_order s os p
   volume_same s os h = ap (sum_by standing) (kept_same (λ o. willing s q (of_order o)) (λ o. willing s p (of_order o)) os
       (All-weaker (λ o. limit_near q o.side o.kind ≡ false) (λ o. willing s q (of_order o) ≡ willing s p (of_order o)) (λ o t. side_same s o.side o.kind t) os h))
 
   -- the nearer to the close then opens better
-  nearer_better : (os : List Order) (close : ℕ) → All (λ o. limit_near q o.side o.kind ≡ false) os → distance p close < distance q close → opens_better os close p q ≡ true
+  nearer_better : (os : List Order) (close : ℕ) → AllByRecursion (λ o. limit_near q o.side o.kind ≡ false) os → distance p close < distance q close → opens_better os close p q ≡ true
   nearer_better os close h d =
       let e = volume_same Buy os h in let f = volume_same Sell os h in
       let t : matched_volume of_order os q ≡ matched_volume of_order os p = ap₂ min e f in
       let u : surplus of_order os q ≡ surplus of_order os p = ap₂ distance e f in
       grind (arith, nat_tests)
 
-some_near : (q : ℕ) (os : List Order) → All (λ o. limit_near q o.side o.kind ≡ false) os ⊎ ((o : Order) × Has os o × (limit_near q o.side o.kind ≡ true))
+some_near : (q : ℕ) (os : List Order) → AllByRecursion (λ o. limit_near q o.side o.kind ≡ false) os ⊎ ((o : Order) × Has os o × (limit_near q o.side o.kind ≡ true))
 some_near q [] = inl tt
 some_near q (o ∷ os) = ⊎_elim
     (λ here. inr (o, has_here o os o refl, here))
@@ -92,7 +92,7 @@ module _ (os : List Order) (close : ℕ) (span : close ≤ 99999) where
   Beside q = (near q close ≡ true) ⊎ ((o : Order) × Has os o × (limit_near q o.side o.kind ≡ true))
 
   -- a grid price with the close and all limits beyond its neighbours is outdone by a neighbour
-  outdone : (q : ℕ) → on_grid q ≡ true → near q close ≡ false → All (λ o. limit_near q o.side o.kind ≡ false) os → (p : ℕ) × (on_grid p ≡ true) × (opens_better os close p q ≡ true)
+  outdone : (q : ℕ) → on_grid q ≡ true → near q close ≡ false → AllByRecursion (λ o. limit_near q o.side o.kind ≡ false) os → (p : ℕ) × (on_grid p ≡ true) × (opens_better os close p q ≡ true)
   outdone q g far none = ⊎_elim
       (λ (l : close < below q). (below q, below_on_grid q g (omega arith), nearer_better q (below q) (omega arith) (grind (arith, nat_tests)) os close none (grind (arith, nat_tests))))
       (λ (l : above q < close). (above q, above_on_grid q g (omega arith), nearer_better q (above q) (grind (arith, nat_tests)) (omega arith) os close none (grind (arith, nat_tests))))
@@ -151,13 +151,13 @@ module _ (os : List Order) (close : ℕ) (span : close ≤ 99999) where
 
 module _ (os : List Order) (close : ℕ) where
   -- what is among the tried and beaten by none is the best of them
-  best_only : (a : ℕ) (cs : List ℕ) → on_grid a ≡ true → All (λ q. on_grid q ≡ true) cs → Has cs (best_price os close) → best_of (opens_better os close) a cs ≡ best_price os close
+  best_only : (a : ℕ) (cs : List ℕ) → on_grid a ≡ true → AllByRecursion (λ q. on_grid q ≡ true) cs → Has cs (best_price os close) → best_of (opens_better os close) a cs ≡ best_price os close
   best_only a cs g all h =
       let beats = opens_better os close in
       let f = IsFirstBest-from_best_of (opens_ranks os close) a cs in
       let here : Has (a ∷ cs) (best_of beats a cs) = subst (Has (a ∷ cs)) f.2 (has_get_or (a ∷ cs) f.0 a f.1.0) in
-      let none : All (λ x. beats x (best_of beats a cs) ≡ false) (a ∷ cs) = All-from_get_or (λ x. beats x (best_of beats a cs) ≡ false) (a ∷ cs) a (λ i l. subst (λ y. beats (get_or (a ∷ cs) i a) y ≡ false) f.2 (f.1.1 i a l)) in
-      let mine : All (λ q. on_grid q ≡ true) (a ∷ cs) = (g, all) in
+      let none : AllByRecursion (λ x. beats x (best_of beats a cs) ≡ false) (a ∷ cs) = All-from_get_or (λ x. beats x (best_of beats a cs) ≡ false) (a ∷ cs) a (λ i l. subst (λ y. beats (get_or (a ∷ cs) i a) y ≡ false) f.2 (f.1.1 i a l)) in
+      let mine : AllByRecursion (λ q. on_grid q ≡ true) (a ∷ cs) = (g, all) in
       same_best os close (best_of beats a cs) (best_price os close)
       (all-has (λ y. beats y (best_of beats a cs) ≡ false) (a ∷ cs) (best_price os close) none (has_cons a cs (best_price os close) h))
       (unbeaten os close (best_of beats a cs) (all-has (λ q. on_grid q ≡ true) (a ∷ cs) (best_of beats a cs) mine here))

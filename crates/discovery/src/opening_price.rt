@@ -1,6 +1,6 @@
 // The theoretical opening price.
 ghost use Rattle.std.specs.Prelude.{◌≡◌, ◌+◌, ◌-◌, ◌<◌, ◌≤◌, true, [], ◌∷◌, fold};
-ghost use Rattle.std.specs.List.{AllByRecursion as All};
+ghost use Rattle.std.specs.List.{AllByRecursion};
 ghost use Rattle.orders.specs.Orders.{orders};
 ghost use Rattle.rules.specs.Volume.{of_order};
 ghost use Rattle.rules.specs.Volume as model;
@@ -11,11 +11,11 @@ ghost use Rattle.discovery.specs.Rungs.{rungs, lower};
 ghost use Rattle.discovery.specs.Search.{Ready, Rated, Sound, Tried, beats, beside_steps, no_price, candidates, better_on};
 
 use crate::ladder::{Cursor, Ladder, build_ladder};
-use orders::select::Filter;
-use orders::table::Table;
 use market::close::Close;
 use market::order::Side;
 use market::units::{Cents, Contracts};
+use orders::select::Filter;
+use orders::table::Table;
 
 // Beyond every price.
 const NO_PRICE: u32 = 200_000;
@@ -211,7 +211,7 @@ fn try_limits(opening: &Opening, side: Side, ladder: &Ladder, search: Search) ->
     requires ready { Ready opening.now }
     requires sound { Sound opening.now search }
     requires inside { ladder.now.first ≤ 161 }
-    requires span { All (λ s. s.price ≤ 99999) (rungs ladder.now) }
+    requires span { AllByRecursion (λ s. s.price ≤ 99999) (rungs ladder.now) }
     ensures { Tried opening.now search result (beside_steps side no_price (rungs ladder.now)) }
 {
     let mut best = search;
@@ -245,8 +245,8 @@ fn begin(opening: &Opening) -> Search
 fn find_best(opening: &Opening) -> Candidate
     requires ready { Ready opening.now }
     requires close { opening.now.close ≤ 99999 }
-    requires buys { All (λ s. s.price ≤ 99999) (rungs opening.now.buys) }
-    requires sells { All (λ s. s.price ≤ 99999) (rungs opening.now.sells) }
+    requires buys { AllByRecursion (λ s. s.price ≤ 99999) (rungs opening.now.buys) }
+    requires sells { AllByRecursion (λ s. s.price ≤ 99999) (rungs opening.now.sells) }
     ensures rated { Rated opening.now result }
     ensures price { result.price ≡ fold (better_on opening.now) 5 (candidates opening.now) }
 {

@@ -1,7 +1,7 @@
 -- What an opening leaves of the orders, from what each step of the code leaves.
 use Rattle.std.proofs.Common.{◌≡◌, ℕ, suc, ◌+◌, ◌-◌, ◌<◌, ◌≤◌, Bool, true, false, cond, ◌&&◌, ltb, List, [], ◌∷◌, map, length, get_or, filter, sym, refl, ap, ◌∙◌, subst, arith}
 use mathlib.Core.List.{map-map}
-use Rattle.std.specs.List.{AllByRecursion as All}
+use Rattle.std.specs.List.{AllByRecursion}
 use Rattle.std.proofs.ByRecursion.{All-get_or, sum_by_le}
 use Rattle.std.proofs.lemmas.List.{length-map}
 use Rattle.std.proofs.lemmas.List.Sums.{count_by-le-length, length-filter}
@@ -138,7 +138,7 @@ module _ (rule : Sharing) (os : List Order) (p : ℕ) where
             ∙ ap (λ s. opening_fill rule os p s o) (sym e)
 
     -- what is left is what the rules say, if no order trades more than stands of it
-    pub left_opened : ((s : Side) → All (λ o. opening_fill rule os p s o ≤ standing o) (filter (wills s p) os)) → map (limited_at p) (settled own_wills os (both_filled rule os p before)) ≡ opened_orders rule os p
+    pub left_opened : ((s : Side) → AllByRecursion (λ o. opening_fill rule os p s o ≤ standing o) (filter (wills s p) os)) → map (limited_at p) (settled own_wills os (both_filled rule os p before)) ≡ opened_orders rule os p
     left_opened within = ap (map (limited_at p)) (settled_is own_wills own_fill os (both_filled rule os p before) (record { same = own_filled; covered = covered })) ∙ opened_are
       where
         covered : (k : ℕ) → k < length os → own_wills (get_or os k no_order) ≡ true → own_fill (get_or os k no_order) ≤ standing (get_or os k no_order)

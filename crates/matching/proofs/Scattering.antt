@@ -1,6 +1,6 @@
 -- A loop that writes shares to the places of their orders, and what stands at each place then.
 use Rattle.std.proofs.Common.{◌≡◌, ℕ, zero, suc, ◌+◌, ◌<◌, ◌≤◌, Bool, true, false, cond, ◌||◌, eqb, leb, List, [], ◌∷◌, map, length, get_or, drop, set, filter, sym, refl, ap, ◌∙◌, subst, arith}
-use Rattle.std.specs.List.{AllByRecursion as All}
+use Rattle.std.specs.List.{AllByRecursion}
 use Rattle.std.proofs.ByRecursion.{All-weaker, All-get_or}
 use Rattle.std.proofs.lemmas.List.{at_drop_more, at_drop_all, get_or-set_same, get_or-set_other, length-set}
 use Rattle.std.proofs.lemmas.Bool.{eq-eqb, eqb-true, eqb-false, ne_eqb, or_from}
@@ -79,7 +79,7 @@ pub among_by_rank : (k : ℕ) (rs : List Ranked) → among k (by_rank rs) ≡ am
 among_by_rank k [] = refl
 among_by_rank k (x ∷ rs) = among_insert k x (by_rank rs) ∙ ap (λ (b : Bool). eqb x.place k || b) (among_by_rank k rs)
 
-pub among_none : (k : ℕ) (rs : List Ranked) → All (λ r. r.place ≡ k → ⊥) rs → among k rs ≡ false
+pub among_none : (k : ℕ) (rs : List Ranked) → AllByRecursion (λ r. r.place ≡ k → ⊥) rs → among k rs ≡ false
 among_none k [] h = refl
 among_none k (r ∷ rs) h = or_from (eqb r.place k) (among k rs) (ne_eqb r.place k h.0) (among_none k rs h.1)
 
@@ -126,7 +126,7 @@ module _ (p : Order → Bool) where
       among_none k (by_rank (ranked_from p 0 os)) (All-weaker (TrueRank os) (λ r. r.place ≡ k → ⊥) (λ r t e. (let lt = t.inside in omega arith)) (by_rank (ranked_from p 0 os)) (ranks_true p os))
 
   -- the ranked places lie in a list as long as the orders
-  pub places_inside : (os : List Order) (n : ℕ) → length os ≤ n → All (λ r. r.place < n) (by_rank (ranked_from p 0 os))
+  pub places_inside : (os : List Order) (n : ℕ) → length os ≤ n → AllByRecursion (λ r. r.place < n) (by_rank (ranked_from p 0 os))
   places_inside os n le = All-weaker (TrueRank os) (λ r. r.place < n) (λ r t. (let lt = t.inside in omega arith)) (by_rank (ranked_from p 0 os)) (ranks_true p os)
 
   -- ---- so the fills are those of the orders that pass, and the others are as they were
@@ -149,7 +149,7 @@ module _ (p : Order → Bool) where
       fill_other k lt t = fill_at k lt (omega arith) ∙ ap (λ (b : Bool). cond b (f (get_or os k no_order)) (get_or fills k 0)) t
 
       -- and what they leave is what the rules say, if no order trades more than stands of it
-      pub left_after : All (λ o. f o ≤ standing o) (filter p os) → settled p os after ≡ live (map (λ o. cond (p o) (after_trade (f o) o) o) os)
+      pub left_after : AllByRecursion (λ o. f o ≤ standing o) (filter p os) → settled p os after ≡ live (map (λ o. cond (p o) (after_trade (f o) o) o) os)
       left_after bound =
           settled_is p f os after (record {
             same = fill_passed;

@@ -1,6 +1,6 @@
 // What each of the ranked orders trades when an amount is taken from them.
 ghost use Rattle.std.specs.Prelude.{◌≡◌, ℕ, ◌<◌, ◌≤◌, map, length, drop, sum, filter as kept_by, ◌≢◌, slice_index};
-ghost use Rattle.std.specs.List.{AllByRecursion as All};
+ghost use Rattle.std.specs.List.{AllByRecursion};
 ghost use Rattle.market.specs.Words.{standing};
 ghost use Rattle.rules.specs.Allocation.{by_priority, fill, level, mark_among};
 ghost use Rattle.rules.specs.Law.{Rising};
@@ -11,9 +11,9 @@ ghost use Rattle.matching.specs.Ranking.{by_rank, ranked_from, priority_at_place
 
 use crate::priority::{Ranked, rank};
 use crate::room::contract_room;
-use orders::select::Filter;
 use market::order::Order;
 use market::units::Contracts;
+use orders::select::Filter;
 use sharing::rule::SharingRule;
 
 // How much is taken, and which order has which guarantee.
@@ -42,7 +42,7 @@ fn level_end(ranked: &[Ranked], start: usize) -> usize
 
 // What stands of each order.
 fn claim(orders: &[Order], ranked: &[Ranked], claims: &mut [Contracts])
-    requires places { All (λ r. r.place < length orders.now) ranked.now }
+    requires places { AllByRecursion (λ r. r.place < length orders.now) ranked.now }
     requires even { length ranked.now ≡ length claims.old }
     ensures { counts claims.new ≡ map standing (orders_at orders.now ranked.now) }
 {
@@ -53,7 +53,7 @@ fn claim(orders: &[Order], ranked: &[Ranked], claims: &mut [Contracts])
 
 // The place of a marked order in a level.
 fn mark_in(orders: &[Order], level: &[Ranked], marked: Option<u16>) -> Option<usize>
-    requires { All (λ r. r.place < length orders.now) level.now }
+    requires { AllByRecursion (λ r. r.place < length orders.now) level.now }
     ensures { result ≡ mark_among marked (orders_at orders.now level.now) }
 {
     let number = marked?;
@@ -87,7 +87,7 @@ fn share_level<R: SharingRule>(
     taking: Taking,
     shares: &mut [Contracts],
 )
-    requires places { All (λ r. r.place < length orders.now) level.now }
+    requires places { AllByRecursion (λ r. r.place < length orders.now) level.now }
     requires claimed { counts claims.now ≡ map standing (orders_at orders.now level.now) }
     requires even { length shares.old ≡ length level.now }
     requires few { length level.now ≤ 160 }
@@ -109,14 +109,14 @@ fn share_levels<R: SharingRule>(
     taking: Taking,
     shares: &mut [Contracts],
 )
-    requires ranks { All (TrueRank orders.now) ranked.now }
+    requires ranks { AllByRecursion (TrueRank orders.now) ranked.now }
     requires sorted { Sorted (orders_at orders.now ranked.now) }
     requires rising { (r : ℕ) → Rising (λ o. o.number) 0 (level r (orders_at orders.now ranked.now)) }
     requires claimed { counts claims.now ≡ map standing (orders_at orders.now ranked.now) }
     requires claims_fit { length claims.now ≡ length ranked.now }
     requires shares_fit { length shares.old ≡ length ranked.now }
     requires few { length ranked.now ≤ 160 }
-    requires small { All (λ o. standing o ≤ 9999) (orders_at orders.now ranked.now) }
+    requires small { AllByRecursion (λ o. standing o ≤ 9999) (orders_at orders.now ranked.now) }
     requires amounts { taking.amount.count ≤ 1599840 }
     requires guarantees { taking.guarantee.count ≤ 9999 }
     ensures { counts shares.new ≡ map (fill (R.shared rule.now) (orders_at orders.now ranked.now) taking.amount.count taking.marked taking.guarantee.count) (orders_at orders.now ranked.now) }
@@ -157,7 +157,7 @@ fn allocate_ranked<R: SharingRule>(
 )
     requires ranking { ranked.now ≡ by_rank (ranked_from (passes filter) 0 orders.now) }
     requires rising { Rising (λ o. o.number) 0 orders.now }
-    requires small { All (λ o. standing o ≤ 9999) orders.now }
+    requires small { AllByRecursion (λ o. standing o ≤ 9999) orders.now }
     requires few { length (kept_by (passes filter) orders.now) ≤ 160 }
     requires claims_fit { length ranked.now ≡ length claims.old }
     requires shares_fit { length ranked.now ≡ length shares.old }
@@ -179,7 +179,7 @@ pub(crate) fn allocate<R: SharingRule>(
     shares: &mut [Contracts],
 ) -> usize
     requires rising { Rising (λ o. o.number) 0 orders.now }
-    requires small { All (λ o. standing o ≤ 9999) orders.now }
+    requires small { AllByRecursion (λ o. standing o ≤ 9999) orders.now }
     requires long { length orders.now ≤ 161 }
     requires few { length (kept_by (passes filter) orders.now) ≤ 160 }
     requires ranked_fit { length orders.now ≡ length ranked.old }

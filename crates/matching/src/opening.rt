@@ -1,6 +1,6 @@
 // The opening match.
 ghost use Rattle.std.specs.Prelude.{◌≡◌, ◌<◌, ◌≤◌, ◌++◌, map, length, drop, filter as kept_by};
-ghost use Rattle.std.specs.List.{AllByRecursion as All};
+ghost use Rattle.std.specs.List.{AllByRecursion};
 ghost use Rattle.market.specs.Refusals.{refused_by, first_hit};
 ghost use Rattle.rules.specs.Opening.{filled, opening_fill, opening_rows};
 ghost use Rattle.rules.specs.Volume.{matched_volume, of_order};
@@ -17,13 +17,13 @@ use crate::fills::scatter;
 use crate::pairing::{Filled, pair};
 use crate::priority::Ranked;
 use crate::room::{contract_room, filled_room, rank_room};
-use orders::select::Filter;
-use orders::table::Table;
 use market::checks::HIGHEST_PRICE;
 use market::order::{Order, Side};
 use market::refusal::Refusal;
 use market::row::Row;
 use market::units::{Cents, Contracts};
+use orders::select::Filter;
+use orders::table::Table;
 use sharing::rule::{MOST_CLAIMS, SharingRule};
 
 // A price and the contracts that trade at it.
@@ -35,7 +35,7 @@ struct Opening {
 
 // Lists the ranked orders by number with what each trades.
 fn list_fills(orders: &[Order], ranked: &[Ranked], shares: &[Contracts], filled: &mut [Filled])
-    requires places { All (λ r. r.place < length orders.now) ranked.now }
+    requires places { AllByRecursion (λ r. r.place < length orders.now) ranked.now }
     requires even { length ranked.now ≡ length shares.now }
     requires room { length ranked.now ≡ length filled.old }
     ensures { map filled_pair filled.new ≡ numbered_fills (orders_at orders.now ranked.now) (counts shares.now) }

@@ -1,6 +1,6 @@
 // The rows of a taker's trades.
 ghost use Rattle.std.specs.Prelude.{◌≡◌, ◌<◌, ◌≤◌, ◌++◌, length, drop};
-ghost use Rattle.std.specs.List.{AllByRecursion as All};
+ghost use Rattle.std.specs.List.{AllByRecursion};
 ghost use Rattle.sharing.specs.Asked.{counts};
 ghost use Rattle.matching.specs.Places.{orders_at};
 ghost use Rattle.matching.specs.Rows.{trade_rows};
@@ -19,7 +19,7 @@ pub fn write_trades(
     shares: &[Contracts],
     rows: &mut [Row],
 ) -> usize
-    requires places { All (λ r. r.place < length orders.now) ranked.now }
+    requires places { AllByRecursion (λ r. r.place < length orders.now) ranked.now }
     requires even { length ranked.now ≡ length shares.now }
     requires room { length ranked.now ≤ length rows.old }
     ensures counted { result ≡ length (trade_rows side taker (orders_at orders.now ranked.now) (counts shares.now)) }

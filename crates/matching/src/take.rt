@@ -13,12 +13,12 @@ use crate::fills::scatter;
 use crate::priority::Ranked;
 use crate::room::{contract_room, rank_room};
 use crate::rows::write_trades;
-use orders::select::{Filter, count};
-use orders::table::Table;
 use market::order::{Order, Side};
 use market::refusal::Refusal;
 use market::row::Row;
 use market::units::Contracts;
+use orders::select::{Filter, count};
+use orders::table::Table;
 use sharing::rule::{LARGEST_AMOUNT, LARGEST_CLAIM, MOST_CLAIMS, SharingRule};
 
 // Who takes, how much, and who has which guarantee against it.

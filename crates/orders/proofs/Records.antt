@@ -1,6 +1,6 @@
 -- Laws of the list of live records.
 use Rattle.std.proofs.Common.{◌≡◌, ℕ, ◌+◌, ◌<◌, ◌≤◌, min, Bool, true, cond, not, ◌||◌, eqb, ltb, leb, List, [], ◌∷◌, ◌++◌, map, length, get_or, count_by, filter, sym, refl, ap, subst, arith, length-take}
-use Rattle.std.specs.List.{list_all, AllByRecursion as All}
+use Rattle.std.specs.List.{list_all, AllByRecursion}
 use Rattle.std.proofs.ByRecursion.{All-append, all_kept_by, All-weaker, All-take}
 use Rattle.std.proofs.lemmas.List.{length-append}
 use Rattle.std.proofs.lemmas.List.Sums.{sum_by-append, sum_by-cons, count_by-le-length, length-filter}
@@ -21,11 +21,11 @@ use Rattle.orders.specs.Records.{balanced, priced, sound_record, booked, auction
 use Rattle.orders.specs.declared.table.Table.{Table}
 
 module _ {X : Type 0} (p : X → Bool) where
-  pub pass_all : (xs : List X) → list_all p xs ≡ true → All (λ x. p x ≡ true) xs
+  pub pass_all : (xs : List X) → list_all p xs ≡ true → AllByRecursion (λ x. p x ≡ true) xs
   pass_all [] h = tt
   pass_all (x ∷ xs) h = let b = and_parts (p x) (list_all p xs) h in (b.0, pass_all xs b.1)
 
-  pub all_passes : (xs : List X) → All (λ x. p x ≡ true) xs → list_all p xs ≡ true
+  pub all_passes : (xs : List X) → AllByRecursion (λ x. p x ≡ true) xs → list_all p xs ≡ true
   all_passes [] h = refl
   all_passes (x ∷ xs) h = and_from (p x) (list_all p xs) h.0 (all_passes xs h.1)
 
@@ -116,10 +116,10 @@ live_kept p os next l =
       numbers = l.numbers;
     }
 
-pub live_small : (os : List Order) (next : ℕ) → Live os next → All (λ o. standing o ≤ 9999) os
+pub live_small : (os : List Order) (next : ℕ) → Live os next → AllByRecursion (λ o. standing o ≤ 9999) os
 live_small os next l = All-weaker (λ (o : Order). sound_record o ≡ true) (λ (o : Order). standing o ≤ 9999) small_left os l.sound
 
-pub live_prices : (os : List Order) (next : ℕ) → Live os next → All (λ o. price_of o.kind ≤ 99999) os
+pub live_prices : (os : List Order) (next : ℕ) → Live os next → AllByRecursion (λ o. price_of o.kind ≤ 99999) os
 live_prices os next l = All-weaker (λ (o : Order). sound_record o ≡ true) (λ (o : Order). price_of o.kind ≤ 99999) (λ o h. (numbers_of o h).price) os l.sound
 
 -- no number is past the last
@@ -160,7 +160,7 @@ module _ (g : ℕ → Order → Order) (number : (k : ℕ) (o : Order) → (g k 
   length_changed k [] = refl
   length_changed k (o ∷ os) = omega (arith, length_changed (k + 1) os)
 
-  sound_changed : (k : ℕ) (os : List Order) → All (λ o. sound_record o ≡ true) os → All (λ o. sound_record o ≡ true) (by_place g k os)
+  sound_changed : (k : ℕ) (os : List Order) → AllByRecursion (λ o. sound_record o ≡ true) os → AllByRecursion (λ o. sound_record o ≡ true) (by_place g k os)
   sound_changed k [] h = tt
   sound_changed k (o ∷ os) h = (sound k o h.0, sound_changed (k + 1) os h.1)
 

@@ -1,6 +1,6 @@
 -- Walks over a list of orders by a test.
 use Rattle.std.proofs.Common.{◌≡◌, ℕ, zero, suc, ◌+◌, ◌-◌, ◌*◌, ◌<◌, ◌≤◌, min, Bool, true, false, cond, List, [], ◌∷◌, ◌++◌, map, length, get_or, take, drop, set, sum_by, count_by, filter, sym, refl, ap, ◌∙◌, subst, arith, length-take}
-use Rattle.std.specs.List.{AllByRecursion as All}
+use Rattle.std.specs.List.{AllByRecursion}
 use Rattle.std.proofs.lemmas.List.Elements.{filter_more, filter-append}
 use Rattle.std.proofs.ByRecursion.{All-take, all_kept_by, sum_by_le}
 use Rattle.std.proofs.lemmas.List.{append-nil, append_assoc, length_push, length-set, take_all, take_more_set, map_more, take_more}
@@ -72,7 +72,7 @@ module _ (p : Order → Bool) (f : Order → ℕ) (os : List Order) (i : ℕ) (i
       omega arith
 
 -- what stands of some of at most 161 orders
-pub kept_sum_small : (p : Order → Bool) (os : List Order) (i : ℕ) → length os ≤ 161 → All (λ o. standing o ≤ 9999) os → sum_by standing (filter p (take i os)) ≤ 1609839
+pub kept_sum_small : (p : Order → Bool) (os : List Order) (i : ℕ) → length os ≤ 161 → AllByRecursion (λ o. standing o ≤ 9999) os → sum_by standing (filter p (take i os)) ≤ 1609839
 kept_sum_small p os i few small =
     let a = sum_by_le standing 9999 (filter p (take i os)) (all_kept_by p (λ o. standing o ≤ 9999) (take i os) (All-take (λ o. standing o ≤ 9999) i os small)) in
     let b = length-filter p (take i os) in

@@ -1,6 +1,6 @@
 // What trades leave of the orders, and what an opening leaves of their kinds.
 ghost use Rattle.std.specs.Prelude.{◌≡◌, ◌≤◌, min, true, map, length, take, slice_index};
-ghost use Rattle.std.specs.List.{AllByRecursion as All};
+ghost use Rattle.std.specs.List.{AllByRecursion};
 ghost use Rattle.market.specs.Words.{standing};
 ghost use Rattle.rules.specs.Allocation.{after_trade};
 ghost use Rattle.orders.specs.Changes.{limited_at};
@@ -61,7 +61,7 @@ pub(crate) fn settle(
     out: &mut [Order],
 ) -> usize
     requires room { length orders.now ≤ length out.old }
-    requires sound { All (λ o. sound_record o ≡ true) orders.now }
+    requires sound { AllByRecursion (λ o. sound_record o ≡ true) orders.now }
     ensures front { take result out.new ≡ settled (passes filter) orders.now (counts fills.now) }
     ensures few { result ≤ length orders.now }
 {

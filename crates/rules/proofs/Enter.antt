@@ -1,6 +1,6 @@
 -- Enter keeps `Sound`.
 use Rattle.std.proofs.Common.{◌≡◌, ℕ, ◌+◌, ◌-◌, ◌<◌, ◌≤◌, min, Bool, true, false, cond, not, ◌&&◌, ◌||◌, eqb, List, [], ◌∷◌, ◌++◌, Some, None, sum_by, count_by, filter, Option, sym, refl, ap, ◌∙◌, subst, arith}
-use Rattle.std.specs.List.{AllByRecursion as All}
+use Rattle.std.specs.List.{AllByRecursion}
 use Rattle.std.proofs.lemmas.List.Sums.{sum_by-append, length-filter, count_by-le-length}
 use Rattle.std.proofs.ByRecursion.{all_kept_by, kept_by_passes, All-weaker, All-append}
 use Rattle.std.proofs.lemmas.Bool.{leb-false, ne_eqb, not-false, and_parts, or_parts}
@@ -29,8 +29,8 @@ use Rattle.rules.proofs.Swaps.{priced_after}
 use Rattle.rules.proofs.Trading.{traded, traded_accounts, traded_all, traded_good, traded_matched, traded_count, roled_trade, Rests, rests, rest_matched, away_below}
 use Rattle.rules.proofs.Steps.{accepts, grown_old, grown_new, orders_rising, orders_early, none_yet, step_conserved, step_unnamed, step_rising, step_numbered, running_keeps, book_unheld}
 
-pub all_none : (P : Order → Type 0) (os : List Order) (i : ℕ) → All (λ o. o.number ≡ i → ⊥) os → All P (filter (λ o. eqb o.number i) os)
-all_none P os i h = subst (All P) (sym (kept_none (λ o. eqb o.number i) os (All-weaker (λ o. o.number ≡ i → ⊥) (λ o. eqb o.number i ≡ false) (λ o k. ne_eqb o.number i k) os h))) tt
+pub all_none : (P : Order → Type 0) (os : List Order) (i : ℕ) → AllByRecursion (λ o. o.number ≡ i → ⊥) os → AllByRecursion P (filter (λ o. eqb o.number i) os)
+all_none P os i h = subst (AllByRecursion P) (sym (kept_none (λ o. eqb o.number i) os (All-weaker (λ o. o.number ≡ i → ⊥) (λ o. eqb o.number i ≡ false) (λ o k. ne_eqb o.number i k) os h))) tt
 
 module _ (rule : Sharing) (facts : Facts rule) (close : ℕ) (st : State) (h : Ledger) (s : Sound close st h) where
   pub lot_kept : (p : Order → Bool) → count_by p st.orders ≤ 160 → Lot (filter p st.orders)
@@ -68,7 +68,7 @@ module _ (rule : Sharing) (facts : Facts rule) (close : ℕ) (st : State) (h : L
     pub lot_against : Lot against
     lot_against = subst Lot against_is (lot_of (reached side (bound side p best)) (book_against side st.orders) lot_contra)
 
-    pub fits : All (λ o. hits o ≡ true → fills o ≤ standing o) st.orders
+    pub fits : AllByRecursion (λ o. hits o ≡ true → fills o ≤ standing o) st.orders
     fits = all_from_kept hits (λ o. fills o ≤ standing o) st.orders (facts.fill_within against n None 0 lot_against (omega arith) (omega arith))
 
     pub whole : sum_by fills against ≡ min n (sum_by standing against)
@@ -100,7 +100,7 @@ module _ (rule : Sharing) (facts : Facts rule) (close : ℕ) (st : State) (h : L
       let rows : List Row = taker_rows side st.next f ag ++ x.1 in
       let early = orders_early close st h s in
       let kept-early = traded_all hit f st.orders fit (λ (o : Order). o.number < st.next) (λ o q k. k) early in
-      let high : All (λ (o : Order). st.next ≤ o.number) x.0 = All-weaker _ (λ (o : Order). st.next ≤ o.number) (λ o k. omega (arith, k.0)) x.0 r.these in
+      let high : AllByRecursion (λ (o : Order). st.next ≤ o.number) x.0 = All-weaker _ (λ (o : Order). st.next ≤ o.number) (λ o k. omega (arith, k.0)) x.0 r.these in
       let old = grown_old st.next kept x.0 kept-early high in
       let new = grown_new st.next kept x.0 kept-early high in
       let taken-from : (i : ℕ) → (i ≡ st.next → ⊥) → named i (taker_rows side st.next f ag) ≡ sum_by f (filter (λ o. eqb o.number i) (filter hit st.orders)) =

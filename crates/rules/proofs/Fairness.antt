@@ -1,6 +1,6 @@
 -- Accepted calls are fair.
 use Rattle.std.proofs.Common.{◌≡◌, ℕ, ◌+◌, ◌-◌, ◌*◌, ◌/◌, ◌<◌, ◌≤◌, min, Bool, true, false, cond, not, ◌&&◌, eqb, ◌⊎◌, List, [], ◌∷◌, ◌++◌, map, is_some, Some, None, sum_by, filter, Option, sym, refl, ap, ◌∙◌, subst, inl, inr, arith}
-use Rattle.std.specs.List.{ContainsAt as Has, AllByRecursion as All}
+use Rattle.std.specs.List.{ContainsAt as Has, AllByRecursion}
 use Rattle.std.proofs.lemmas.List.{append-nil}
 use Rattle.std.proofs.lemmas.List.Elements.{filter-append}
 use Rattle.std.proofs.ByRecursion.{all_kept_by, all-has, All-weaker, All-map}
@@ -44,7 +44,7 @@ use Rattle.rules.proofs.Steps.{zero_one, accepts}
 -- ---- every entry's balance is what stands of it
 
 weighed : (w : Entry → ℕ) {R : Entry → Order → Type 0} {bs : List Entry} {os : List Order} → ((b : Entry) (o : Order) → R b o → o.number ≡ b.number) → (low : ℕ) →
-    Matched (λ b. Unit {0}) R bs os → Rising (λ (b : Entry). b.number) low bs → All (λ b. w b ≡ left_under os b.number) bs → Matched (λ b. w b ≡ 0) (λ b o. R b o × (w b ≡ standing o)) bs os
+    Matched (λ b. Unit {0}) R bs os → Rising (λ (b : Entry). b.number) low bs → AllByRecursion (λ b. w b ≡ left_under os b.number) bs → Matched (λ b. w b ≡ 0) (λ b o. R b o × (w b ≡ standing o)) bs os
 weighed w f low none r a = none
 weighed w f low (spent {b = b} {bs = bs} {os = os} u m) r a =
     let up = rising_above (λ (o : Order). o.number) b.number b.number os (omega arith) (rising_orders f b.number m r.1) in
@@ -95,7 +95,7 @@ module _ (rule : Sharing) (facts : Facts rule) (close : ℕ) (st : State) (h : L
     stands_there : (b : Entry) (o : Order) → Agrees st.trading h.opened_at b o → stands h b ≡ price_of o.kind
     stands_there b o a = priced_true st.trading h.opened_at b o trading a.price
 
-    all_against : All (Against d) (filter po st.orders)
+    all_against : AllByRecursion (Against d) (filter po st.orders)
     all_against = all_to_kept po (Against d) st.orders (All-weaker (Good st.trading) _ (λ o k e. (same_true o.side (other d) (sided o e), subst (λ t. Fine t o.kind) trading k.fine)) st.orders s.good)
 
     none_better_than : (take : ℕ → ℕ) → Choice h (filter pe h.orders) take → chosen_contracts (filter pe h.orders) take ≡ contracts_in (taker_rows d number fi ag) →
@@ -107,7 +107,7 @@ module _ (rule : Sharing) (facts : Facts rule) (close : ℕ) (st : State) (h : L
         let e₂ : chosen_total h (filter pe h.orders) take ≡ sum_by (λ o. price_of o.kind * take o.number) (filter po st.orders) =
         matched_sum pe po (λ b. stands h b * take b.number) (λ o. price_of o.kind * take o.number) (λ b k e. nothing (stands h b) (take b.number) (omega (arith, k.0, k.1 e)))
         (λ b o k. (agree b o k.0.0, (λ e i. stands_there b o k.0.0 i * take (sym k.0.0.number i)))) m in
-        let small : All (λ o. take o.number ≤ standing o) (filter po st.orders) =
+        let small : AllByRecursion (λ o. take o.number ≤ standing o) (filter po st.orders) =
         all_to_kept po (λ o. take o.number ≤ standing o) st.orders (matched_all (λ o. po o ≡ true → take o.number ≤ standing o)
         (λ b o k e. omega (arith, ap take k.0.0.number, k.0.1, k.1 (agree b o k.0.0 ∙ e))) m) in
         let best = facts.fill_best d bnd (filter po st.orders) amount mark g lot all_against amount-few g-few take small (sym e₁ ∙ sums ∙ facts.rows_contracts d number fi ag) in
@@ -271,9 +271,9 @@ module _ (rule : Sharing) (facts : Facts rule) (close : ℕ) (st : State) (h : L
           announced = ((facts.top_some st.orders st.close x is).1, (facts.top_some st.orders st.close x is).0 ∙ sym (volume_at_is x.0), (facts.top_some st.orders st.close x is).2);
           never_outdone = λ q grid out. facts.top_best st.orders st.close x is q grid (known q out);
           all_of_it = ap contracts_in whole ∙ facts.opening_contracts st.orders x.0 (lot_all rule facts close st h s before) (fine_all rule facts close st h s before) ∙ sym (volume_at_is x.0);
-          one_price = subst (All (λ r. AtPrice (Some x) r.price.value)) (sym whole) (All-weaker (Opens st.orders x.0) (λ r. r.price.value ≡ x.0) (λ r k. k.1) rows all);
-          buyers_willing = subst (All (λ r. WillingAt h Buy (Some x) r.first)) (sym whole) (All-weaker (Opens st.orders x.0) (λ r. WillingAt h Buy (Some x) r.first) (λ r k. willing_entry Buy x.0 r.first k.2.0 k.2.1 k.2.2 k.2.3) rows all);
-          sellers_willing = subst (All (λ r. WillingAt h Sell (Some x) r.second)) (sym whole) (All-weaker (Opens st.orders x.0) (λ r. WillingAt h Sell (Some x) r.second) (λ r k. willing_entry Sell x.0 r.second k.3.0 k.3.1 k.3.2 k.3.3) rows all);
+          one_price = subst (AllByRecursion (λ r. AtPrice (Some x) r.price.value)) (sym whole) (All-weaker (Opens st.orders x.0) (λ r. r.price.value ≡ x.0) (λ r k. k.1) rows all);
+          buyers_willing = subst (AllByRecursion (λ r. WillingAt h Buy (Some x) r.first)) (sym whole) (All-weaker (Opens st.orders x.0) (λ r. WillingAt h Buy (Some x) r.first) (λ r k. willing_entry Buy x.0 r.first k.2.0 k.2.1 k.2.2 k.2.3) rows all);
+          sellers_willing = subst (AllByRecursion (λ r. WillingAt h Sell (Some x) r.second)) (sym whole) (All-weaker (Opens st.orders x.0) (λ r. WillingAt h Sell (Some x) r.second) (λ r k. willing_entry Sell x.0 r.second k.3.0 k.3.1 k.3.2 k.3.3) rows all);
         }
       where
         known : (q : ℕ) → Outdone h st.close q (Some x) →

@@ -1,6 +1,6 @@
 -- What a lawful rule makes of the fills: none past what stands, as much as there is, and no better total for as many contracts.
 use Rattle.std.proofs.Common.{◌≡◌, ℕ, zero, suc, ◌+◌, ◌-◌, ◌*◌, ◌<◌, ◌≤◌, min, Bool, true, false, cond, eqb, ltb, List, [], ◌∷◌, map, length, get_or, Some, None, sum_by, sum, filter, Option, sym, refl, ap, ◌∙◌, subst, ⊎_elim, suc-mul, add-mul, mul-add, add-one, arith}
-use Rattle.std.specs.List.{ContainsAt as Has, AllByRecursion as All}
+use Rattle.std.specs.List.{ContainsAt as Has, AllByRecursion}
 use Rattle.std.proofs.lemmas.List.{length-map}
 use Rattle.std.proofs.lemmas.List.Sums.{sum_by-cons}
 use Rattle.std.proofs.ByRecursion.{All-weaker, all_has_itself, all_kept_by, All-map, all-has, kept_by_passes}
@@ -52,7 +52,7 @@ shares_sum low (o ∷ os) (y ∷ ys) r e =
     let d = shares_sum o.number os ys r.1 (omega arith) in
     omega (arith, sum_by-cons (λ x. x) y ys)
 
-shares_within : (low : ℕ) (os : List Order) (ys : List ℕ) → Rising (λ (o : Order). o.number) low os → ((k : ℕ) → get_or ys k 0 ≤ get_or (map standing os) k 0) → All (λ o. share_at ys (place_of o.number os) ≤ standing o) os
+shares_within : (low : ℕ) (os : List Order) (ys : List ℕ) → Rising (λ (o : Order). o.number) low os → ((k : ℕ) → get_or ys k 0 ≤ get_or (map standing os) k 0) → AllByRecursion (λ o. share_at ys (place_of o.number os) ≤ standing o) os
 shares_within low [] ys r h = tt
 shares_within low (o ∷ os) [] r h = (subst (λ q. share_at [] q ≤ standing o) (sym (place_here o os)) (omega arith), all_of _ os (λ p. none (place_of p.number (o ∷ os)) (standing p)))
   where
@@ -109,11 +109,11 @@ module _ {X : Type 0} where
         sum_two (λ x. cond (ltb (key x) r) (φ x) 0) (λ x. cond (eqb (key x) r) (φ x) 0) (λ x. cond (ltb (key x) (suc r)) (φ x) 0) xs (all_of _ xs (λ x. split_at (key x) r (φ x))),
       )
 
-  all_under_sum : (f : X → ℕ) (xs : List X) → All (λ x. f x ≤ sum_by f xs) xs
+  all_under_sum : (f : X → ℕ) (xs : List X) → AllByRecursion (λ x. f x ≤ sum_by f xs) xs
   all_under_sum f [] = tt
   all_under_sum f (x ∷ xs) = let e = sum_by-cons f x xs in (omega arith, All-weaker (λ y. f y ≤ sum_by f xs) (λ y. f y ≤ sum_by f (x ∷ xs)) (λ y l. omega arith) xs (all_under_sum f xs))
 
-  under_all : (φ key : X → ℕ) (r : ℕ) (xs : List X) → All (λ x. key x < r) xs → under φ key r xs ≡ sum_by φ xs
+  under_all : (φ key : X → ℕ) (r : ℕ) (xs : List X) → AllByRecursion (λ x. key x < r) xs → under φ key r xs ≡ sum_by φ xs
   under_all φ key r xs h = ap (sum_by φ) (kept_all (λ x. ltb (key x) r) xs (All-weaker (λ x. key x < r) _ (λ x l. lt-ltb (key x) r l) xs h))
 
   -- ---- weighted sums, by how much lies below each priority
@@ -154,7 +154,7 @@ module _ {X : Type 0} where
       go : (x m : ℕ) → min x 0 * m ≡ 0
       go x m = let a : min x 0 ≡ 0 = omega arith in ap (λ k. k * m) a ∙ omega arith
 
-  weight_all : (φ key : X → ℕ) (r : ℕ) (xs : List X) → All (λ x. key x ≤ r) xs → weight key φ r xs ≡ sum_by (λ x. key x * φ x) xs
+  weight_all : (φ key : X → ℕ) (r : ℕ) (xs : List X) → AllByRecursion (λ x. key x ≤ r) xs → weight key φ r xs ≡ sum_by (λ x. key x * φ x) xs
   unfolding weight
   weight_all φ key r xs h = sum_same (λ x. min (key x) r * φ x) (λ x. key x * φ x) xs (All-weaker (λ x. key x ≤ r) _ (λ x l. go (key x) (φ x) l) xs h)
     where
@@ -166,7 +166,7 @@ lighter : {X Y : Type 0} (φ key : X → ℕ) (xs : List X) (ψ lock : Y → ℕ
 lighter φ key xs ψ lock ys e h zero = omega (arith, weight_zero φ key xs)
 lighter φ key xs ψ lock ys e h (suc r) = omega (arith, weight_suc φ key r xs, weight_suc ψ lock r ys, h (suc r), lighter φ key xs ψ lock ys e h r)
 
-small_places : (cs : List ℕ) → All (λ c. c ≤ 9999) cs → (k : ℕ) → get_or cs k 0 ≤ 9999
+small_places : (cs : List ℕ) → AllByRecursion (λ c. c ≤ 9999) cs → (k : ℕ) → get_or cs k 0 ≤ 9999
 small_places [] h k = omega arith
 small_places (c ∷ cs) h zero = h.0
 small_places (c ∷ cs) h (suc k) = small_places cs h.1 k
@@ -186,7 +186,7 @@ module _ (rule : Sharing) (lawful : Lawful rule) (os : List Order) (amount : ℕ
         guarantees = g-few;
       }))
 
-  in_level : (r : ℕ) → All (λ o. fill rule os amount mark g o ≡ share_at (shares_at r) (place_of o.number (level r os))) (level r os)
+  in_level : (r : ℕ) → AllByRecursion (λ o. fill rule os amount mark g o ≡ share_at (shares_at r) (place_of o.number (level r os))) (level r os)
   in_level r = All-weaker (λ o. eqb (priority o) r ≡ true) _ (λ o e. ap (λ k. share_at (shares_at k) (place_of o.number (level k os))) (eqb-true (priority o) r e)) (level r os) (kept_by_passes (λ o. eqb (priority o) r) os)
 
   level_sum : (r : ℕ) → sum_by (fill rule os amount mark g) (level r os) ≡ min (amount - volume_ahead r os) (sum_by standing (level r os))
@@ -205,10 +205,10 @@ module _ (rule : Sharing) (lawful : Lawful rule) (os : List Order) (amount : ℕ
   pub fill_whole : sum_by (fill rule os amount mark g) os ≡ min amount (sum_by standing os)
   fill_whole =
       let top : ℕ = suc (sum_by priority os) in
-      let up : All (λ o. priority o < top) os = All-weaker (λ o. priority o ≤ sum_by priority os) (λ o. priority o < top) (λ o l. omega arith) os (all_under_sum priority os) in
+      let up : AllByRecursion (λ o. priority o < top) os = All-weaker (λ o. priority o ≤ sum_by priority os) (λ o. priority o < top) (λ o l. omega arith) os (all_under_sum priority os) in
       omega (arith, filled_under top, under_all (fill rule os amount mark g) priority top os up, under_all standing priority top os up)
 
-  pub fill_within : All (λ o. fill rule os amount mark g o ≤ standing o) os
+  pub fill_within : AllByRecursion (λ o. fill rule os amount mark g o ≤ standing o) os
   fill_within = All-weaker (Has os) _ (λ o h. one o h) os (all_has_itself os)
     where
       one : (o : Order) → Has os o → fill rule os amount mark g o ≤ standing o
@@ -223,7 +223,7 @@ sum_scale : {X : Type 0} (c : ℕ) (φ : X → ℕ) (xs : List X) → sum_by (λ
 sum_scale c φ [] = omega arith
 sum_scale c φ (x ∷ xs) = sum_by-cons (λ x. c * φ x) x xs ∙ ap (λ n. c * φ x + n) (sum_scale c φ xs) ∙ sym (mul-add c (φ x) (sum_by φ xs)) ∙ ap (λ n. c * n) (sym (sum_by-cons φ x xs))
 
-sum_four : {X : Type 0} (a b c d : X → ℕ) (xs : List X) → All (λ x. a x + b x ≡ c x + d x) xs → sum_by a xs + sum_by b xs ≡ sum_by c xs + sum_by d xs
+sum_four : {X : Type 0} (a b c d : X → ℕ) (xs : List X) → AllByRecursion (λ x. a x + b x ≡ c x + d x) xs → sum_by a xs + sum_by b xs ≡ sum_by c xs + sum_by d xs
 sum_four a b c d xs h = omega (arith, sum_two a b (λ x. c x + d x) xs h, sum_two c d (λ x. c x + d x) xs (all_of _ xs (λ x. refl)))
 
 priority_selling : (d : Side) (k : OrderKind) → d ≡ Sell → Fine true k → priority_at d k ≡ price_of k
@@ -260,8 +260,8 @@ module _ (s : Side) (b : ℕ) where
       go Buy o a e = omega (arith, priority_selling o.side o.kind a.0 a.1, leb-true (price_of o.kind) b e)
       go Sell o a e = omega (arith, priority_buying o.side o.kind a.0 a.1, leb-true b (price_of o.kind) e)
 
-module _ (rule : Sharing) (lawful : Lawful rule) (s : Side) (b : ℕ) (os : List Order) (amount : ℕ) (mark : Option ℕ) (g : ℕ) (lot : Lot os) (sides : All (Against s) os)
-    (amount-few : amount ≤ 1599840) (g-few : g ≤ 9999) (take : ℕ → ℕ) (small : All (λ o. take o.number ≤ standing o) os) where
+module _ (rule : Sharing) (lawful : Lawful rule) (s : Side) (b : ℕ) (os : List Order) (amount : ℕ) (mark : Option ℕ) (g : ℕ) (lot : Lot os) (sides : AllByRecursion (Against s) os)
+    (amount-few : amount ≤ 1599840) (g-few : g ≤ 9999) (take : ℕ → ℕ) (small : AllByRecursion (λ o. take o.number ≤ standing o) os) where
   abbrev inner : List Order
   inner = filter (reached s b) os
 
@@ -312,7 +312,7 @@ module _ (rule : Sharing) (lawful : Lawful rule) (s : Side) (b : ℕ) (os : List
 
         far : suc (suc (edge s b)) ≤ r → under t priority r os ≤ under f priority r inner
         far l =
-            let all : All (λ o. priority o < r) inner = all_to_kept (reached s b) (λ o. priority o < r) os (All-weaker (Against s) _ (λ o a e. past o (outside s b o a e)) os sides) in
+            let all : AllByRecursion (λ o. priority o < r) inner = all_to_kept (reached s b) (λ o. priority o < r) os (All-weaker (Against s) _ (λ o a e. past o (outside s b o a e)) os sides) in
             omega (arith, all_of_t, sums, under_all f priority r inner all)
           where
             past : (o : Order) → priority o ≤ edge s b → priority o < r
@@ -328,10 +328,10 @@ module _ (rule : Sharing) (lawful : Lawful rule) (s : Side) (b : ℕ) (os : List
           weight_all t priority (sum_by priority os) os up,
         )
 
-    priced_buying : s ≡ Buy → (xs : List Order) (φ : Order → ℕ) → All (Against s) xs → sum_by (λ o. priority o * φ o) xs ≡ sum_by (λ o. price_of o.kind * φ o) xs
+    priced_buying : s ≡ Buy → (xs : List Order) (φ : Order → ℕ) → AllByRecursion (Against s) xs → sum_by (λ o. priority o * φ o) xs ≡ sum_by (λ o. price_of o.kind * φ o) xs
     priced_buying e xs φ h = sum_same (λ o. priority o * φ o) (λ o. price_of o.kind * φ o) xs (All-weaker (Against s) _ (λ o a. ap (λ n. n * φ o) (priority_selling o.side o.kind (a.0 ∙ ap other e) a.1)) xs h)
 
-    priced_selling : s ≡ Sell → (xs : List Order) (φ : Order → ℕ) → All (Against s) xs → sum_by (λ o. priority o * φ o) xs + sum_by (λ o. price_of o.kind * φ o) xs ≡ 100000 * sum_by φ xs
+    priced_selling : s ≡ Sell → (xs : List Order) (φ : Order → ℕ) → AllByRecursion (Against s) xs → sum_by (λ o. priority o * φ o) xs + sum_by (λ o. price_of o.kind * φ o) xs ≡ 100000 * sum_by φ xs
     priced_selling e xs φ h =
         sum_two (λ o. priority o * φ o) (λ o. price_of o.kind * φ o) (λ o. 100000 * φ o) xs
         (All-weaker (Against s) _ (λ o a. sym (add-mul (priority o) (price_of o.kind) (φ o)) ∙ ap (λ n. n * φ o) (priority_buying o.side o.kind (a.0 ∙ ap other e) a.1)) xs h) ∙
@@ -340,7 +340,7 @@ module _ (rule : Sharing) (lawful : Lawful rule) (s : Side) (b : ℕ) (os : List
     pub fill_best : AtLeastAsGood s (sum_by (λ o. price_of o.kind * f o) inner) (sum_by (λ o. price_of o.kind * t o) os)
     fill_best = go s refl
       where
-        in_sides : All (Against s) inner
+        in_sides : AllByRecursion (Against s) inner
         in_sides = all_kept_by (reached s b) (Against s) os sides
 
         go : (d : Side) → s ≡ d → AtLeastAsGood d (sum_by (λ o. price_of o.kind * f o) inner) (sum_by (λ o. price_of o.kind * t o) os)

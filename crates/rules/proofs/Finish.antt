@@ -1,6 +1,6 @@
 -- Finish keeps `Sound`.
 use Rattle.std.proofs.Common.{◌≡◌, ℕ, ◌+◌, ◌*◌, ◌/◌, ◌<◌, ◌≤◌, Bool, true, false, cond, not, ◌&&◌, ◌||◌, eqb, ◌⊎◌, List, [], ◌++◌, map, is_some, Some, None, sum_by, filter, Option, sym, refl, ap, ◌∙◌, subst, inl, inr, ⊎_elim, arith}
-use Rattle.std.specs.List.{AllByRecursion as All}
+use Rattle.std.specs.List.{AllByRecursion}
 use Rattle.std.proofs.ByRecursion.{all_kept_by, kept_by_passes, All-weaker}
 use Rattle.std.proofs.lemmas.Bool.{eqb-true, eqb-false, ne_eqb, both_ways, cases_eq, not-true, or_parts}
 use Rattle.market.specs.Refusals.{first_hit}
@@ -42,8 +42,8 @@ module _ (rule : Sharing) (facts : Facts rule) (close : ℕ) (st : State) (h : L
   pub run : Auctioning a st.next st.orders h.orders h.customer
   run = subst (λ x. Running x st.next st.orders h.orders h.customer) is s.running
 
-  pub roled_now : All (Roled (Some a)) st.orders
-  roled_now = subst (λ x. All (Roled x) st.orders) is s.roled
+  pub roled_now : AllByRecursion (Roled (Some a)) st.orders
+  roled_now = subst (λ x. AllByRecursion (Roled x) st.orders) is s.roled
 
   abbrev pub is_contra : Order → Bool
   is_contra o = same_side o.side (other a.side)
@@ -128,8 +128,8 @@ module _ (rule : Sharing) (facts : Facts rule) (close : ℕ) (st : State) (h : L
       by true y k = sym (k refl)
       by false y k = refl
 
-  fit : All (λ o. is_contra o ≡ true → shares o ≤ standing o) (filter apart_from st.orders)
-  fit = all_from_kept is_contra (λ o. shares o ≤ standing o) (filter apart_from st.orders) (subst (All (λ o. shares o ≤ standing o)) contra_apart (facts.fill_within contra a.size.count (Some a.starter) (2 * a.size.count / 5) lot_contra_all (omega (arith, run.sized.1)) fifth))
+  fit : AllByRecursion (λ o. is_contra o ≡ true → shares o ≤ standing o) (filter apart_from st.orders)
+  fit = all_from_kept is_contra (λ o. shares o ≤ standing o) (filter apart_from st.orders) (subst (AllByRecursion (λ o. shares o ≤ standing o)) contra_apart (facts.fill_within contra a.size.count (Some a.starter) (2 * a.size.count / 5) lot_contra_all (omega (arith, run.sized.1)) fifth))
 
   pub finished_sound : (t : ℕ) → Sound close (finished rule st t a).state (record { orders = h.orders ++ []; quotes = h.quotes; rows = h.rows ++ (finished rule st t a).rows; opened_at = h.opened_at; customer = h.customer })
   finished_sound t =
@@ -140,7 +140,7 @@ module _ (rule : Sharing) (facts : Facts rule) (close : ℕ) (st : State) (h : L
       let rows : List Row = tk ++ leftover after in
       let left_over : (i : ℕ) → 0 < i → named i (leftover after) + left_under booked i ≡ left_under after i = (λ i q.
       omega (arith, departures_named (λ o. departure Withdrawn o.number 0 (standing o)) (filter (λ o. not (in_book o.role)) after) i q (λ o. (refl, refl, refl)), left_split (λ o. in_book o.role) after i)) in
-      let base-apart : All (λ o. o.number ≡ a.customer → ⊥) base = All-weaker (λ o. apart_from o ≡ true) (λ o. o.number ≡ a.customer → ⊥) (λ o k. eqb-false o.number a.customer (not-true (eqb o.number a.customer) k)) base (kept_by_passes apart_from st.orders) in
+      let base-apart : AllByRecursion (λ o. o.number ≡ a.customer → ⊥) base = All-weaker (λ o. apart_from o ≡ true) (λ o. o.number ≡ a.customer → ⊥) (λ o k. eqb-false o.number a.customer (not-true (eqb o.number a.customer) k)) base (kept_by_passes apart_from st.orders) in
       let customers : left_under after a.customer ≡ 0 = left_none after a.customer (traded_all is_contra shares base fit (λ o. o.number ≡ a.customer → ⊥) (λ o q k. k) base-apart) in
       let here : named a.customer rows + left_under booked a.customer ≡ left_under st.orders a.customer =
       omega (arith, named_append a.customer tk (leftover after), facts.rows_taker a.side a.customer shares contra, all_shared, left_over a.customer run.early.0, customers, run.customer_left) in

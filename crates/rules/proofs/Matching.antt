@@ -1,6 +1,6 @@
 -- How matched lists, rising numbers and kept parts behave.
 use Rattle.std.proofs.Common.{◌≡◌, ℕ, ◌+◌, ◌<◌, ◌≤◌, Bool, true, false, cond, ◌&&◌, eqb, ltb, List, [], ◌∷◌, ◌++◌, map, sum_by, count_by, filter, sym, refl, ap, ◌∙◌, subst, arith}
-use Rattle.std.specs.List.{ContainsAt as Has, AllByRecursion as All}
+use Rattle.std.specs.List.{ContainsAt as Has, AllByRecursion}
 use Rattle.std.proofs.lemmas.List.Sums.{length-filter, count_by-le-length, sum_by-cons, sum_by-append}
 use Rattle.std.proofs.lemmas.List.Elements.{filter-append}
 use Rattle.std.proofs.ByRecursion.{all_kept_by, kept_by_passes, all_has_itself, all-has, All-weaker, has_append_right}
@@ -18,15 +18,15 @@ use Rattle.rules.proofs.Sound.{Lot, Matched, none, spent, stands_as}
 -- ---- kept parts
 
 module _ {X : Type 0} where
-  pub all_from_kept : (p : X → Bool) (P : X → Type 0) (xs : List X) → All P (filter p xs) → All (λ x. p x ≡ true → P x) xs
+  pub all_from_kept : (p : X → Bool) (P : X → Type 0) (xs : List X) → AllByRecursion P (filter p xs) → AllByRecursion (λ x. p x ≡ true → P x) xs
   all_from_kept p P [] h = tt
   all_from_kept p P (x ∷ xs) h = go (p x) (all_from_kept p P xs) h
     where
-      go : (b : Bool) → (All P (filter p xs) → All (λ x. p x ≡ true → P x) xs) → All P (cond b (x ∷ filter p xs) (filter p xs)) → (b ≡ true → P x) × All (λ x. p x ≡ true → P x) xs
+      go : (b : Bool) → (AllByRecursion P (filter p xs) → AllByRecursion (λ x. p x ≡ true → P x) xs) → AllByRecursion P (cond b (x ∷ filter p xs) (filter p xs)) → (b ≡ true → P x) × AllByRecursion (λ x. p x ≡ true → P x) xs
       go true f k = (λ _. k.0, f k.1)
       go false f k = (λ e. absurd (both_ways false refl e), f k)
 
-  pub all_to_kept : (p : X → Bool) (P : X → Type 0) (xs : List X) → All (λ x. p x ≡ true → P x) xs → All P (filter p xs)
+  pub all_to_kept : (p : X → Bool) (P : X → Type 0) (xs : List X) → AllByRecursion (λ x. p x ≡ true → P x) xs → AllByRecursion P (filter p xs)
   all_to_kept p P xs h = all_both (λ x. p x ≡ true → P x) (λ x. p x ≡ true) P (filter p xs) (λ x k e. k e) (all_kept_by p (λ x. p x ≡ true → P x) xs h) (kept_by_passes p xs)
 
   pub has_from_kept : (p : X → Bool) (xs : List X) (x : X) → Has (filter p xs) x → Has xs x × (p x ≡ true)
@@ -51,7 +51,7 @@ module _ {X : Type 0} where
       go true n = omega arith
       go false n = omega arith
 
-  pub kept_same : (p q : X → Bool) (xs : List X) → All (λ x. p x ≡ q x) xs → filter p xs ≡ filter q xs
+  pub kept_same : (p q : X → Bool) (xs : List X) → AllByRecursion (λ x. p x ≡ q x) xs → filter p xs ≡ filter q xs
   kept_same p q [] h = refl
   kept_same p q (x ∷ xs) h = (λ t. cond (h.0 t) (x ∷ kept_same p q xs h.1 t) (kept_same p q xs h.1 t))
 
@@ -63,17 +63,17 @@ module _ {X : Type 0} where
       go true e = ap (λ ys. cond (q x) (x ∷ ys) ys) e
       go false e = e
 
-  pub kept_all : (p : X → Bool) (xs : List X) → All (λ x. p x ≡ true) xs → filter p xs ≡ xs
+  pub kept_all : (p : X → Bool) (xs : List X) → AllByRecursion (λ x. p x ≡ true) xs → filter p xs ≡ xs
   kept_all p [] h = refl
   kept_all p (x ∷ xs) h = cond-true (p x) (x ∷ filter p xs) (filter p xs) h.0 ∙ ap (λ ys. x ∷ ys) (kept_all p xs h.1)
 
-  pub kept_none : (p : X → Bool) (xs : List X) → All (λ x. p x ≡ false) xs → filter p xs ≡ []
+  pub kept_none : (p : X → Bool) (xs : List X) → AllByRecursion (λ x. p x ≡ false) xs → filter p xs ≡ []
   kept_none p [] h = refl
   kept_none p (x ∷ xs) h = cond-false (p x) (x ∷ filter p xs) (filter p xs) h.0 ∙ kept_none p xs h.1
 
   -- ---- rising numbers
 
-  pub rising_above : (f : X → ℕ) (low m : ℕ) (xs : List X) → m ≤ low → Rising f low xs → All (λ x. m < f x) xs
+  pub rising_above : (f : X → ℕ) (low m : ℕ) (xs : List X) → m ≤ low → Rising f low xs → AllByRecursion (λ x. m < f x) xs
   rising_above f low m [] l h = tt
   rising_above f low m (x ∷ xs) l h = (omega (arith, h.0), rising_above f (f x) m xs (omega (arith, h.0)) h.1)
 
@@ -89,13 +89,13 @@ module _ {X : Type 0} where
       go true k = (h.0, k)
       go false k = rising_lower f (f x) low (filter p xs) (omega (arith, h.0)) k
 
-  pub rising_append : (f : X → ℕ) (low m : ℕ) (xs ys : List X) → Rising f low xs → All (λ x. f x ≤ m) xs → low ≤ m → Rising f m ys → Rising f low (xs ++ ys)
+  pub rising_append : (f : X → ℕ) (low m : ℕ) (xs ys : List X) → Rising f low xs → AllByRecursion (λ x. f x ≤ m) xs → low ≤ m → Rising f m ys → Rising f low (xs ++ ys)
   rising_append f low m [] ys h a l k = rising_lower f m low ys l k
   rising_append f low m (x ∷ xs) ys h a l k = (h.0, rising_append f (f x) m xs ys h.1 a.1 a.0 k)
 
 -- ---- contracts under a number
 
-pub left_none : (os : List Order) (n : ℕ) → All (λ o. o.number ≡ n → ⊥) os → left_under os n ≡ 0
+pub left_none : (os : List Order) (n : ℕ) → AllByRecursion (λ o. o.number ≡ n → ⊥) os → left_under os n ≡ 0
 left_none os n h = ap (sum_by (λ o. o.left.count)) (kept_none (λ o. eqb o.number n) os (All-weaker (λ o. o.number ≡ n → ⊥) (λ o. eqb o.number n ≡ false) (λ o k. ne_eqb o.number n k) os h))
 
 pub left_append : (os ps : List Order) (n : ℕ) → left_under (os ++ ps) n ≡ left_under os n + left_under ps n
@@ -113,7 +113,7 @@ pub named_append : (n : ℕ) (rs ts : List Row) → named n (rs ++ ts) ≡ named
 named_append n rs ts = ap (sum_by (λ r. r.contracts.count)) (filter-append (names n) rs ts) ∙ sum_by-append (λ r. r.contracts.count) (filter (names n) rs) (filter (names n) ts)
 
 -- d of each order goes, and those with nothing left are dropped
-pub moved_accounts : (g : Order → Order) (d : Order → ℕ) (os : List Order) (n : ℕ) → All (λ o. ((g o).number ≡ o.number) × (d o + standing (g o) ≡ standing o)) os →
+pub moved_accounts : (g : Order → Order) (d : Order → ℕ) (os : List Order) (n : ℕ) → AllByRecursion (λ o. ((g o).number ≡ o.number) × (d o + standing (g o) ≡ standing o)) os →
     sum_by d (filter (λ o. eqb o.number n) os) + left_under (live (map g os)) n ≡ left_under os n
 moved_accounts g d os n h =
     let e₁ = sum_kept d (λ o. eqb o.number n) os in
@@ -152,19 +152,19 @@ module _ {S : Entry → Type 0} {R : Entry → Order → Type 0} where
   matched_append (spent s m) k = spent s (matched_append m k)
   matched_append (stands_as r m) k = stands_as r (matched_append m k)
 
-  pub matched_with : (P : Entry → Type 0) {bs : List Entry} {os : List Order} → Matched S R bs os → All P bs → Matched (λ b. S b × P b) (λ b o. R b o × P b) bs os
+  pub matched_with : (P : Entry → Type 0) {bs : List Entry} {os : List Order} → Matched S R bs os → AllByRecursion P bs → Matched (λ b. S b × P b) (λ b o. R b o × P b) bs os
   matched_with P none a = none
   matched_with P (spent s m) a = spent (s, a.0) (matched_with P m a.1)
   matched_with P (stands_as r m) a = stands_as (r, a.0) (matched_with P m a.1)
 
   -- each order's entry
-  pub matched_entry : {bs : List Entry} {os : List Order} → Matched S R bs os → All (λ o. (b : Entry) × Has bs b × R b o) os
+  pub matched_entry : {bs : List Entry} {os : List Order} → Matched S R bs os → AllByRecursion (λ o. (b : Entry) × Has bs b × R b o) os
   matched_entry none = tt
   matched_entry (spent {b = b} {bs = bs} {os = os} s m) = All-weaker (λ o. (c : Entry) × Has bs c × R c o) (λ o. (c : Entry) × Has (b ∷ bs) c × R c o) (λ o k. (k.0, has_cons b bs k.0 k.1, k.2)) os (matched_entry m)
   matched_entry (stands_as {b = b} {o = o} {bs = bs} {os = os} r m) =
       ((b, (0, omega arith, λ d. refl), r), All-weaker (λ o. (c : Entry) × Has bs c × R c o) (λ o. (c : Entry) × Has (b ∷ bs) c × R c o) (λ o k. (k.0, has_cons b bs k.0 k.1, k.2)) os (matched_entry m))
 
-  pub matched_all : (P : Order → Type 0) {bs : List Entry} {os : List Order} → ((b : Entry) (o : Order) → R b o → P o) → Matched S R bs os → All P os
+  pub matched_all : (P : Order → Type 0) {bs : List Entry} {os : List Order} → ((b : Entry) (o : Order) → R b o → P o) → Matched S R bs os → AllByRecursion P os
   matched_all P h none = tt
   matched_all P h (spent s m) = matched_all P h m
   matched_all P h (stands_as {b = b} {o = o} r m) = (h b o r, matched_all P h m)

@@ -1,6 +1,6 @@
 -- Improve and better keep `Sound`.
 use Rattle.std.proofs.Common.{◌≡◌, ℕ, ◌+◌, ◌<◌, ◌≤◌, Bool, true, false, cond, not, ◌&&◌, ◌||◌, eqb, ◌⊎◌, List, [], ◌∷◌, ◌++◌, is_some, Some, None, count_by, filter, Option, sym, refl, ap, ◌∙◌, subst, inl, inr, arith}
-use Rattle.std.specs.List.{AllByRecursion as All}
+use Rattle.std.specs.List.{AllByRecursion}
 use Rattle.std.proofs.ByRecursion.{all_kept_by, all-has, All-weaker, has_append_left}
 use Rattle.std.proofs.lemmas.Bool.{eqb-true, eqb-false, leb-false, ne_eqb, both_ways, not-false, and_parts, or_parts}
 use Rattle.market.specs.Refusals.{first_hit}
@@ -39,11 +39,11 @@ some_auction : (x : Option Auction) → not (is_some x) ≡ false → (a : Aucti
 some_auction (Some a) e = (a, refl)
 some_auction None e = absurd (both_ways true e refl)
 
-found_none : (q : Order → Bool) (os : List Order) → found q os ≡ None → All (λ o. q o ≡ false) os
+found_none : (q : Order → Bool) (os : List Order) → found q os ≡ None → AllByRecursion (λ o. q o ≡ false) os
 found_none q [] e = tt
 found_none q (o ∷ os) e = go (q o) e (found_none q os)
   where
-    go : (b : Bool) → cond b (Some o) (found q os) ≡ None → (found q os ≡ None → All (λ o. q o ≡ false) os) → (b ≡ false) × All (λ o. q o ≡ false) os
+    go : (b : Bool) → cond b (Some o) (found q os) ≡ None → (found q os ≡ None → AllByRecursion (λ o. q o ≡ false) os) → (b ≡ false) × AllByRecursion (λ o. q o ≡ false) os
     go true k f = let z : ◌≡◌ {A = ℕ} 0 1 = cc in absurd (zero_one z)
     go false k f = (refl, f k)
 
@@ -155,7 +155,7 @@ module _ (rule : Sharing) (close : ℕ) (st : State) (h : Ledger) (s : Sound clo
           let now-auction : Auction = record { customer = a.customer; starter = st.next; member = a.member; side = a.side; size = a.size; end = a.end } in
           let side₂ : other (customer_side h.customer) ≡ other a.side = ap (λ x. other (customer_side x)) r.entry.1 ∙ ap other r.entry.4 in
           let size₂ : customer_size h.customer ≡ a.size.count = ap customer_size r.entry.1 ∙ r.entry.5 in
-          let roled : All (Roled (Some a)) st.orders = subst (λ x. All (Roled x) st.orders) is s.roled in
+          let roled : AllByRecursion (Roled (Some a)) st.orders = subst (λ x. AllByRecursion (Roled x) st.orders) is s.roled in
           let early = orders_early close st h s in
           let kept-early = all_kept_by keep (λ (o : Order). o.number < st.next) st.orders early in
           let grown = grown_old st.next (filter keep st.orders) (new ∷ []) kept-early (omega arith, tt) in

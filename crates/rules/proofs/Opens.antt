@@ -1,6 +1,6 @@
 -- Opening keeps `Sound`.
 use Rattle.std.proofs.Common.{◌≡◌, ℕ, ◌+◌, ◌<◌, ◌≤◌, Bool, true, false, cond, not, ◌&&◌, eqb, ltb, List, [], ◌∷◌, ◌++◌, map, is_some, Some, None, count_by, filter, Option, sym, refl, ap, subst, inl, inr, arith}
-use Rattle.std.specs.List.{AllByRecursion as All}
+use Rattle.std.specs.List.{AllByRecursion}
 use Rattle.std.proofs.lemmas.List.Sums.{sum_by-cons}
 use Rattle.std.proofs.ByRecursion.{sum_by_le, all_kept_by, kept_by_passes, All-weaker, All-map}
 use Rattle.std.proofs.lemmas.Bool.{ltb-true, ltb-false, both_ways, or_parts}
@@ -28,7 +28,7 @@ use Rattle.rules.proofs.Plain.{posting, grid_fine}
 use Rattle.rules.proofs.Enter.{lot_kept}
 use Rattle.rules.proofs.Steps.{accepts, none_yet, step_conserved, step_unnamed, step_rising, step_numbered, running_keeps, matched_nil}
 
-pub count_none : (q : Order → Bool) (os : List Order) → count_by q os ≡ 0 → All (λ o. q o ≡ false) os
+pub count_none : (q : Order → Bool) (os : List Order) → count_by q os ≡ 0 → AllByRecursion (λ o. q o ≡ false) os
 count_none q [] e = tt
 count_none q (o ∷ os) e = (go (q o) (count_by q os) (omega (arith, sum_by-cons (λ o. cond (q o) 1 0) o os)), count_none q os (omega (arith, sum_by-cons (λ o. cond (q o) 1 0) o os)))
   where
@@ -39,7 +39,7 @@ count_none q (o ∷ os) e = (go (q o) (count_by q os) (omega (arith, sum_by-cons
         no n e = omega arith
     go false n e = refl
 
-matched_and : {S : Entry → Type 0} {R : Entry → Order → Type 0} (P : Order → Type 0) {bs : List Entry} {os : List Order} → Matched S R bs os → All P os → Matched S (λ b o. R b o × P o) bs os
+matched_and : {S : Entry → Type 0} {R : Entry → Order → Type 0} (P : Order → Type 0) {bs : List Entry} {os : List Order} → Matched S R bs os → AllByRecursion P os → Matched S (λ b o. R b o × P o) bs os
 matched_and P none a = none
 matched_and P (spent s m) a = spent s (matched_and P m a)
 matched_and P (stands_as r m) a = stands_as (r, a.0) (matched_and P m a.1)
@@ -66,7 +66,7 @@ priced_false true opened b o e k = absurd (both_ways true e refl)
 priced_false false opened b o e k = k
 
 module _ (rule : Sharing) (facts : Facts rule) (close : ℕ) (st : State) (h : Ledger) (s : Sound close st h) (before : st.trading ≡ false) where
-  pub fine_all : All (λ o. Fine false o.kind) st.orders
+  pub fine_all : AllByRecursion (λ o. Fine false o.kind) st.orders
   fine_all = All-weaker (Good st.trading) (λ o. Fine false o.kind) (λ o g. subst (λ t. Fine t o.kind) before g.fine) st.orders s.good
 
   idle : st.auction ≡ None
@@ -74,7 +74,7 @@ module _ (rule : Sharing) (facts : Facts rule) (close : ℕ) (st : State) (h : L
 
   pub lot_all : Lot st.orders
   lot_all =
-      let booked : filter (λ o. in_book o.role) st.orders ≡ st.orders = kept_all (λ o. in_book o.role) st.orders (subst (λ x. All (Roled x) st.orders) idle s.roled) in
+      let booked : filter (λ o. in_book o.role) st.orders ≡ st.orders = kept_all (λ o. in_book o.role) st.orders (subst (λ x. AllByRecursion (Roled x) st.orders) idle s.roled) in
       subst Lot booked (lot_kept rule facts close st h s (λ o. in_book o.role) (omega (arith, s.books)))
 
   pub lot_willing : (d : Side) (p : ℕ) → Lot (filter (wills d p) st.orders)
@@ -85,10 +85,10 @@ module _ (rule : Sharing) (facts : Facts rule) (close : ℕ) (st : State) (h : L
       let l = lot_willing Buy p in
       omega (arith, sum_by_le standing 9999 (filter (wills Buy p) st.orders) l.small, l.short)
 
-  within_fill : (d : Side) (p : ℕ) → All (λ o. wills d p o ≡ true → opening_fill rule st.orders p d o ≤ standing o) st.orders
+  within_fill : (d : Side) (p : ℕ) → AllByRecursion (λ o. wills d p o ≡ true → opening_fill rule st.orders p d o ≤ standing o) st.orders
   within_fill d p = all_from_kept (wills d p) (λ o. opening_fill rule st.orders p d o ≤ standing o) st.orders (facts.fill_within (filter (wills d p) st.orders) (matched_volume of_order st.orders p) None 0 (lot_willing d p) (matched_few p) (omega arith))
 
-  within_trade : (p : ℕ) → All (λ o. opening_trade rule st.orders p o ≤ standing o) st.orders
+  within_trade : (p : ℕ) → AllByRecursion (λ o. opening_trade rule st.orders p o ≤ standing o) st.orders
   within_trade p = all_both (λ o. wills Buy p o ≡ true → opening_fill rule st.orders p Buy o ≤ standing o) (λ o. wills Sell p o ≡ true → opening_fill rule st.orders p Sell o ≤ standing o) _ st.orders (λ o x y. by o.side o x y) (within_fill Buy p) (within_fill Sell p)
     where
       if : (b : Bool) (m n : ℕ) → (b ≡ true → m ≤ n) → cond b m 0 ≤ n
@@ -114,7 +114,7 @@ module _ (rule : Sharing) (facts : Facts rule) (close : ℕ) (st : State) (h : L
       (record { orders = h.orders ++ []; quotes = h.quotes; rows = h.rows ++ (elim y [ Some x ↦ opening_rows rule st.orders x.0 | None ↦ [] ]); opened_at = first_of y h.opened_at; customer = h.customer })
   opening_at t None is e =
       let none-on : count_by (λ o. on_opening o.kind) st.orders ≡ 0 = omega (arith, ltb-false 0 (count_by (λ o. on_opening o.kind) st.orders) (yes _ e)) in
-      let limits : All (λ o. on_opening o.kind ≡ false) st.orders = count_none (λ o. on_opening o.kind) st.orders none-on in
+      let limits : AllByRecursion (λ o. on_opening o.kind ≡ false) st.orders = count_none (λ o. on_opening o.kind) st.orders none-on in
       record {
         closes = s.closes;
         quotes = s.quotes;

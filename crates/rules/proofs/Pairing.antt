@@ -1,6 +1,6 @@
 -- The opening's rows: what they name and hold.
 use Rattle.std.proofs.Common.{◌≡◌, ℕ, ◌+◌, ◌-◌, ◌<◌, ◌≤◌, min, max, Bool, true, false, cond, ◌&&◌, ◌||◌, eqb, ltb, List, [], ◌∷◌, None, sum_by, filter, sym, refl, ap, ◌∙◌, ⊎_elim, arith}
-use Rattle.std.specs.List.{flat_map, ContainsAt as Has, AllByRecursion as All}
+use Rattle.std.specs.List.{flat_map, ContainsAt as Has, AllByRecursion}
 use Rattle.std.proofs.lemmas.List.Sums.{sum_by-cons}
 use Rattle.std.proofs.ByRecursion.{sum_by_le, All-weaker, all_has_itself, All-map, all-has}
 use Rattle.std.proofs.lemmas.Bool.{ltb-false, eqb-true, both_ways, cases_lt, and_parts}
@@ -42,13 +42,13 @@ intervals_sum φ at (x ∷ xs) =
     let e : at + x.1 - at ≡ x.1 = omega arith in
     omega (arith, sum_by-cons (λ (b : Interval). φ b.0 (b.2 - b.1)) (x.0, at, at + x.1) (intervals (at + x.1) xs), sum_by-cons (λ (x : ℕ × ℕ). φ x.0 x.1) x xs, ap (φ x.0) e, intervals_sum φ (at + x.1) xs)
 
-intervals_end : (at : ℕ) (xs : List (ℕ × ℕ)) → All (λ (b : Interval). (b.1 ≤ b.2) × (b.2 ≤ at + sum_by (λ (x : ℕ × ℕ). x.1) xs)) (intervals at xs)
+intervals_end : (at : ℕ) (xs : List (ℕ × ℕ)) → AllByRecursion (λ (b : Interval). (b.1 ≤ b.2) × (b.2 ≤ at + sum_by (λ (x : ℕ × ℕ). x.1) xs)) (intervals at xs)
 intervals_end at [] = tt
 intervals_end at (x ∷ xs) =
     let e = sum_by-cons (λ (x : ℕ × ℕ). x.1) x xs in
     ((omega arith, omega arith), All-weaker (λ (b : Interval). (b.1 ≤ b.2) × (b.2 ≤ at + x.1 + sum_by (λ (x : ℕ × ℕ). x.1) xs)) (λ (b : Interval). (b.1 ≤ b.2) × (b.2 ≤ at + sum_by (λ (x : ℕ × ℕ). x.1) (x ∷ xs))) (λ b l. (l.0, omega (arith, l.1))) (intervals (at + x.1) xs) (intervals_end (at + x.1) xs))
 
-intervals_all : (Q : ℕ → Type 0) (at : ℕ) (xs : List (ℕ × ℕ)) → All (λ (x : ℕ × ℕ). Q x.0) xs → All (λ (b : Interval). Q b.0) (intervals at xs)
+intervals_all : (Q : ℕ → Type 0) (at : ℕ) (xs : List (ℕ × ℕ)) → AllByRecursion (λ (x : ℕ × ℕ). Q x.0) xs → AllByRecursion (λ (b : Interval). Q b.0) (intervals at xs)
 intervals_all Q at [] h = tt
 intervals_all Q at (x ∷ xs) h = (h.0, intervals_all Q (at + x.1) xs h.1)
 
@@ -107,22 +107,22 @@ module _ (p : ℕ) where
       go b s true k = omega (arith, sum_by-cons ψ (meet b s) [], e b s)
       go b s false k = omega (arith, z b s (omega (arith, ltb-false 0 (overlap b s) k)))
 
-  paired_all : (P : Row → Type 0) (bs ss : List Interval) → All (λ b. All (λ s. P (meet b s)) ss) bs → All P (paired p bs ss)
+  paired_all : (P : Row → Type 0) (bs ss : List Interval) → AllByRecursion (λ b. AllByRecursion (λ s. P (meet b s)) ss) bs → AllByRecursion P (paired p bs ss)
   paired_all P bs ss h =
       all_joined P (λ b. flat_map (λ s. cond (ltb 0 (overlap b s)) (meet b s ∷ []) []) ss) bs
-      (All-weaker (λ b. All (λ s. P (meet b s)) ss) _ (λ b k. all_joined P (λ s. cond (ltb 0 (overlap b s)) (meet b s ∷ []) []) ss (All-weaker (λ s. P (meet b s)) _ (λ s x. go b s (ltb 0 (overlap b s)) x) ss k)) bs h)
+      (All-weaker (λ b. AllByRecursion (λ s. P (meet b s)) ss) _ (λ b k. all_joined P (λ s. cond (ltb 0 (overlap b s)) (meet b s ∷ []) []) ss (All-weaker (λ s. P (meet b s)) _ (λ s x. go b s (ltb 0 (overlap b s)) x) ss k)) bs h)
     where
-      go : (b s : Interval) (t : Bool) → P (meet b s) → All P (cond t (meet b s ∷ []) [])
+      go : (b s : Interval) (t : Bool) → P (meet b s) → AllByRecursion P (cond t (meet b s ∷ []) [])
       go b s true x = (x, tt)
       go b s false x = tt
 
 -- orders with one number have one side
-one_side : (low : ℕ) (os : List Order) → Rising (λ (o : Order). o.number) low os → All (λ (o : Order). All (λ (q : Order). o.number ≡ q.number → o.side ≡ q.side) os) os
+one_side : (low : ℕ) (os : List Order) → Rising (λ (o : Order). o.number) low os → AllByRecursion (λ (o : Order). AllByRecursion (λ (q : Order). o.number ≡ q.number → o.side ≡ q.side) os) os
 one_side low [] r = tt
 one_side low (o ∷ os) r =
     let up = rising_above (λ (q : Order). q.number) o.number o.number os (omega arith) r.1 in (
       ((λ e. refl), All-weaker (λ (q : Order). o.number < q.number) (λ (q : Order). o.number ≡ q.number → o.side ≡ q.side) (λ q l e. absurd (apart o.number q.number l e)) os up),
-      all_both (λ (q : Order). o.number < q.number) (λ (q : Order). All (λ (x : Order). q.number ≡ x.number → q.side ≡ x.side) os) (λ (q : Order). All (λ (x : Order). q.number ≡ x.number → q.side ≡ x.side) (o ∷ os)) os
+      all_both (λ (q : Order). o.number < q.number) (λ (q : Order). AllByRecursion (λ (x : Order). q.number ≡ x.number → q.side ≡ x.side) os) (λ (q : Order). AllByRecursion (λ (x : Order). q.number ≡ x.number → q.side ≡ x.side) (o ∷ os)) os
           (λ q l h. ((λ e. absurd (apart o.number q.number l (sym e))), h)) up (one_side o.number os r.1),
     )
   where
@@ -134,12 +134,12 @@ module _ (rule : Sharing) (os : List Order) (p : ℕ) where
   abbrev From : Side → ℕ → Type 0
   From d n = (o : Order) × Has os o × (o.number ≡ n) × (wills d p o ≡ true)
 
-  pieces_from : (d : Side) → All (λ (b : Interval). From d b.0) (intervals 0 (filled rule os p d))
+  pieces_from : (d : Side) → AllByRecursion (λ (b : Interval). From d b.0) (intervals 0 (filled rule os p d))
   pieces_from d = intervals_all (From d) 0 (filled rule os p d)
       (All-map (λ (x : ℕ × ℕ). From d x.0) (λ o. (o.number, opening_fill rule os p d o)) (by_priority (filter (wills d p) os))
       (all_by_priority (λ o. From d o.number) (filter (wills d p) os) (All-weaker (Has (filter (wills d p) os)) (λ o. From d o.number) (λ o h. let k = has_from_kept (wills d p) os o h in (o, k.0, refl, k.1)) (filter (wills d p) os) (all_has_itself (filter (wills d p) os)))))
 
-  pub opening_rows_of : All (Opens os p) (opening_rows rule os p)
+  pub opening_rows_of : AllByRecursion (Opens os p) (opening_rows rule os p)
   opening_rows_of = paired_all p (Opens os p) (intervals 0 (filled rule os p Buy)) (intervals 0 (filled rule os p Sell))
       (All-weaker (λ (b : Interval). From Buy b.0) _ (λ b x. All-weaker (λ (s : Interval). From Sell s.0) _ (λ s y. (refl, refl, x, y)) (intervals 0 (filled rule os p Sell)) (pieces_from Sell)) (intervals 0 (filled rule os p Buy)) (pieces_from Buy))
 
@@ -166,10 +166,10 @@ module _ (rule : Sharing) (os : List Order) (p : ℕ) where
     abbrev ss : List Interval
     ss = intervals 0 (filled rule os p Sell)
 
-    each_buyer : All (λ (b : Interval). sum_by (λ (s : Interval). overlap b s) ss ≡ b.2 - b.1) bs
+    each_buyer : AllByRecursion (λ (b : Interval). sum_by (λ (s : Interval). overlap b s) ss ≡ b.2 - b.1) bs
     each_buyer = All-weaker (λ (b : Interval). (b.1 ≤ b.2) × (b.2 ≤ 0 + sum_by (λ (x : ℕ × ℕ). x.1) (filled rule os p Buy))) _ (λ b l. cover_all b (filled rule os p Sell) (matched_volume of_order os p) sells l.0 (omega (arith, l.1, buys))) bs (intervals_end 0 (filled rule os p Buy))
 
-    each_seller : All (λ (s : Interval). sum_by (λ (b : Interval). overlap b s) bs ≡ s.2 - s.1) ss
+    each_seller : AllByRecursion (λ (s : Interval). sum_by (λ (b : Interval). overlap b s) bs ≡ s.2 - s.1) ss
     each_seller = All-weaker (λ (s : Interval). (s.1 ≤ s.2) × (s.2 ≤ 0 + sum_by (λ (x : ℕ × ℕ). x.1) (filled rule os p Sell))) _ (λ s l. cover_back s (filled rule os p Buy) (matched_volume of_order os p) buys l.0 (omega (arith, l.1, sells))) ss (intervals_end 0 (filled rule os p Sell))
 
     pub opening_contracts : contracts_in (opening_rows rule os p) ≡ matched_volume of_order os p
@@ -186,7 +186,7 @@ module _ (rule : Sharing) (os : List Order) (p : ℕ) where
         sum_by_priority (λ o. cond (eqb o.number n) (opening_fill rule os p d o) 0) (filter (wills d p) os) ∙
         sum_kept (λ o. cond (eqb o.number n) (opening_fill rule os p d o) 0) (wills d p) os
 
-    never_both : All (λ (b : Interval). All (λ (s : Interval). b.0 ≡ s.0 → ⊥) ss) bs
+    never_both : AllByRecursion (λ (b : Interval). AllByRecursion (λ (s : Interval). b.0 ≡ s.0 → ⊥) ss) bs
     never_both = All-weaker (λ (b : Interval). From Buy b.0) _ (λ b x. All-weaker (λ (s : Interval). From Sell s.0) _ (λ s y e. clash b s x y e) ss (pieces_from Sell)) bs (pieces_from Buy)
       where
         bought : (d : Side) (o : Order) → wills d p o ≡ true → same_side o.side d ≡ true
@@ -199,7 +199,7 @@ module _ (rule : Sharing) (os : List Order) (p : ℕ) where
 
         clash : (b s : Interval) → From Buy b.0 → From Sell s.0 → b.0 ≡ s.0 → ⊥
         clash b s x y e =
-            let u = all-has (λ (o : Order). All (λ (q : Order). o.number ≡ q.number → o.side ≡ q.side) os) os x.0 (one_side 0 os lot.rising) x.1 in
+            let u = all-has (λ (o : Order). AllByRecursion (λ (q : Order). o.number ≡ q.number → o.side ≡ q.side) os) os x.0 (one_side 0 os lot.rising) x.1 in
             let v = all-has (λ (q : Order). x.0.number ≡ q.number → x.0.side ≡ q.side) os y.0 u y.1 in
             split x.0.side y.0.side (v (x.2 ∙ e ∙ sym y.2)) (bought Buy x.0 x.3) (bought Sell y.0 y.3)
 
@@ -208,7 +208,7 @@ module _ (rule : Sharing) (os : List Order) (p : ℕ) where
         let e₁ = sum_kept (λ r. r.contracts.count) (names n) (opening_rows rule os p) in
         let e₂ = paired_sum p (λ r. cond (names n r) r.contracts.count 0) (λ b s. cond (eqb b.0 n || eqb s.0 n) (overlap b s) 0) bs ss (λ b s. refl) (λ b s e. ap (λ m. cond (eqb b.0 n || eqb s.0 n) m 0) e ∙ nil (eqb b.0 n || eqb s.0 n)) in
         let e₃ = sum_two (λ (b : Interval). sum_by (λ (s : Interval). cond (eqb b.0 n) (overlap b s) 0) ss) (λ (b : Interval). sum_by (λ (s : Interval). cond (eqb s.0 n) (overlap b s) 0) ss) (λ (b : Interval). sum_by (λ (s : Interval). cond (eqb b.0 n || eqb s.0 n) (overlap b s) 0) ss) bs
-        (All-weaker (λ (b : Interval). All (λ (s : Interval). b.0 ≡ s.0 → ⊥) ss) _ (λ b h. sum_two (λ (s : Interval). cond (eqb b.0 n) (overlap b s) 0) (λ (s : Interval). cond (eqb s.0 n) (overlap b s) 0) (λ (s : Interval). cond (eqb b.0 n || eqb s.0 n) (overlap b s) 0) ss
+        (All-weaker (λ (b : Interval). AllByRecursion (λ (s : Interval). b.0 ≡ s.0 → ⊥) ss) _ (λ b h. sum_two (λ (s : Interval). cond (eqb b.0 n) (overlap b s) 0) (λ (s : Interval). cond (eqb s.0 n) (overlap b s) 0) (λ (s : Interval). cond (eqb b.0 n || eqb s.0 n) (overlap b s) 0) ss
         (All-weaker (λ (s : Interval). b.0 ≡ s.0 → ⊥) _ (λ s k. either (eqb b.0 n) (eqb s.0 n) (overlap b s) (λ x y. k (eqb-true b.0 n x ∙ sym (eqb-true s.0 n y)))) ss h)) bs never_both) in
         let e₄ = sum_same (λ (b : Interval). sum_by (λ (s : Interval). cond (eqb b.0 n) (overlap b s) 0) ss) (λ (b : Interval). cond (eqb b.0 n) (b.2 - b.1) 0) bs
         (All-weaker (λ (b : Interval). sum_by (λ (s : Interval). overlap b s) ss ≡ b.2 - b.1) _ (λ b k. pull (eqb b.0 n) (λ (s : Interval). overlap b s) ss (b.2 - b.1) k) bs each_buyer) in

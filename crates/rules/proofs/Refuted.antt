@@ -1,6 +1,6 @@
 -- Each wrong host is refused by the part of the law that it breaks.
 use Rattle.std.proofs.Common.{◌≡◌, ℕ, ◌<◌, ◌≤◌, true, false, cond, eqb, List, Some, None, Option, sym, refl, ap, ◌∙◌, subst, inl, inr, arith}
-use Rattle.std.specs.List.{AllByRecursion as All}
+use Rattle.std.specs.List.{AllByRecursion}
 use Rattle.std.proofs.ByRecursion.{all-has}
 use Rattle.std.proofs.lemmas.Bool.{both_ways}
 use Rattle.market.specs.declared.order.Side.TheVariants.{Buy, Sell}
@@ -15,17 +15,17 @@ use Rattle.rules.specs.Wrong.{WrongHostsRefused, onlookers, offered, auctioning}
 abbrev Unwilling : Side → ℕ → Entry → Type 0
 Unwilling s n b = b.number ≡ n → willing s 205 (of_entry onlookers b) ≡ true → ⊥
 
-unwilling_buyers : All (Unwilling Buy 3) onlookers.orders
+unwilling_buyers : AllByRecursion (Unwilling Buy 3) onlookers.orders
 unwilling_buyers = ((λ e w. omega arith), ((λ e w. omega arith), ((λ e w. both_ways false refl w), ((λ e w. omega arith), tt))))
 
-unwilling_sellers : All (Unwilling Sell 4) onlookers.orders
+unwilling_sellers : AllByRecursion (Unwilling Sell 4) onlookers.orders
 unwilling_sellers = ((λ e w. omega arith), ((λ e w. omega arith), ((λ e w. omega arith), ((λ e w. both_ways false refl w), tt))))
 
 -- not order 2 standing at 109
 abbrev Elsewhere : Entry → Type 0
 Elsewhere b = b.number ≡ 2 → stands offered b ≡ 109 → ⊥
 
-not_at_109 : All Elsewhere (contra_orders Buy offered)
+not_at_109 : AllByRecursion Elsewhere (contra_orders Buy offered)
 not_at_109 = ((λ e w. omega arith), ((λ e w. omega arith), ((λ e w. omega arith), tt)))
 
 -- a choice of n contracts of one order

@@ -2,7 +2,7 @@
 use Rattle.std.proofs.Common.{◌≡◌, ℕ, ◌+◌, List, [], ◌∷◌, ◌++◌, length, take, drop, Some, None, Option, sym, refl, subst, arith}
 use lib.Seq.{take-append_seam}
 use Rattle.std.proofs.ByRecursion.{All-weaker}
-use Rattle.std.specs.List.{AllByRecursion as All}
+use Rattle.std.specs.List.{AllByRecursion}
 use Rattle.market.specs.Refusals.{first_hit}
 use Rattle.rules.specs.Calls.{Call, away, better, checks, clock, effect, enter, finish, improve, opening, place, start, withdraw}
 use Rattle.rules.specs.Law.{BestTerms, Conserved, Fair, FairEvent, NoOrderDenied, Numbered, RecordsAddUp}
@@ -29,7 +29,7 @@ counted : (rule : Sharing) (st : State) (c : Call) → take (length (effect rule
 counted rule st c = take-append_seam (effect rule st c).rows (drop (length (effect rule st c).rows) (lent c))
 
 -- what left answers is what stands
-conserved_by_left : (d : Day) → All (λ (b : Entry). named b.number (ledger d.events).rows + left_under d.state.orders b.number ≡ b.size) (ledger d.events).orders → Conserved d
+conserved_by_left : (d : Day) → AllByRecursion (λ (b : Entry). named b.number (ledger d.events).rows + left_under d.state.orders b.number ≡ b.size) (ledger d.events).orders → Conserved d
 conserved_by_left d h =
     All-weaker (λ (b : Entry). named b.number (ledger d.events).rows + left_under d.state.orders b.number ≡ b.size) _
     (λ b e n k. let same : left_under d.state.orders b.number ≡ n = cc in omega arith) (ledger d.events).orders h
@@ -92,7 +92,7 @@ module _ (rule : Sharing) (facts : Facts rule) (close : ℕ) where
       let s = run_sound number cs in
       (event_fair d.state (ledger d.events) s c (first_hit (checks d.state c)) refl, conserved_by_left (step rule d c) (step_sound d s c).conserved, (step_sound d s c).rising)
 
-  pub records : (number : ℕ) (cs : List Call) → All AddsUp (run rule number close cs).state.orders
+  pub records : (number : ℕ) (cs : List Call) → AllByRecursion AddsUp (run rule number close cs).state.orders
   records number cs = All-weaker (Good (run rule number close cs).state.trading) AddsUp (λ o g. g.adds) (run rule number close cs).state.orders (run_sound number cs).good
 
 pub best_terms : (rule : Sharing) → Facts rule → BestTerms rule

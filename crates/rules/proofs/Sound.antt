@@ -1,6 +1,6 @@
 -- What every run keeps: the state's orders are the ledger's entries that still have a balance.
 use Rattle.std.proofs.Common.{◌≡◌, ℕ, ◌+◌, ◌*◌, ◌<◌, ◌≤◌, min, Bool, true, false, not, ◌||◌, eqb, ◌⊎◌, List, [], ◌∷◌, length, Some, None, sum_by, count_by, filter, Option}
-use Rattle.std.specs.List.{ContainsAt as Has, AllByRecursion as All}
+use Rattle.std.specs.List.{ContainsAt as Has, AllByRecursion}
 use Rattle.market.specs.Spans.{on_grid}
 use Rattle.market.specs.declared.auction.Auction.{Auction}
 use Rattle.market.specs.declared.order.Order.{Order}
@@ -89,15 +89,15 @@ other_auction o = not (in_book o.role || auctioned o.role)
 pub record Sound (close : ℕ) (st : State) (h : Ledger) : Type 0 where
   pub closes : st.close ≡ close
   pub quotes : h.quotes ≡ st.away
-  pub spanned : All (λ q. Spanned q.bid × Spanned q.offer) st.away
+  pub spanned : AllByRecursion (λ q. Spanned q.bid × Spanned q.offer) st.away
   pub first : 0 < st.next
   pub rising : Rising (λ (b : Entry). b.number) 0 h.orders
-  pub numbered : All (λ (b : Entry). b.number < st.next) h.orders
+  pub numbered : AllByRecursion (λ (b : Entry). b.number < st.next) h.orders
   pub unnamed : (n : ℕ) → st.next ≤ n → named n h.rows ≡ 0
-  pub conserved : All (λ (b : Entry). named b.number h.rows + left_under st.orders b.number ≡ b.size) h.orders
+  pub conserved : AllByRecursion (λ (b : Entry). named b.number h.rows + left_under st.orders b.number ≡ b.size) h.orders
   pub matched : Matched (λ b. Unit {0}) (Agrees st.trading h.opened_at) h.orders st.orders
-  pub good : All (Good st.trading) st.orders
-  pub roled : All (Roled st.auction) st.orders
+  pub good : AllByRecursion (Good st.trading) st.orders
+  pub roled : AllByRecursion (Roled st.auction) st.orders
   pub books : count_by (λ o. in_book o.role) st.orders ≤ 128
   pub others : count_by other_auction st.orders ≤ 32
   pub quiet : st.trading ≡ false → st.auction ≡ None
@@ -109,7 +109,7 @@ pub record Sound (close : ℕ) (st : State) (h : Ledger) : Type 0 where
 pub record Lot (os : List Order) : Type 0 where
   pub rising : Rising (λ (o : Order). o.number) 0 os
   pub short : length os ≤ 160
-  pub small : All (λ o. standing o ≤ 9999) os
+  pub small : AllByRecursion (λ o. standing o ≤ 9999) os
 
 abbrev pub Against : Side → Order → Type 0
 Against s o = (o.side ≡ other s) × Fine true o.kind
@@ -126,12 +126,12 @@ Opens os p r =
 
 pub record Facts (rule : Sharing) : Type 0 where
   pub fill_within : (os : List Order) (amount : ℕ) (mark : Option ℕ) (g : ℕ) → Lot os → amount ≤ 1599840 → g ≤ 9999 →
-      All (λ o. fill rule os amount mark g o ≤ standing o) os
+      AllByRecursion (λ o. fill rule os amount mark g o ≤ standing o) os
   pub fill_whole : (os : List Order) (amount : ℕ) (mark : Option ℕ) (g : ℕ) → Lot os → amount ≤ 1599840 → g ≤ 9999 →
       sum_by (fill rule os amount mark g) os ≡ min amount (sum_by standing os)
   -- no choice of as many contracts from os has a better total than the fills of those of os within the bound b
-  pub fill_best : (s : Side) (b : ℕ) (os : List Order) (amount : ℕ) (mark : Option ℕ) (g : ℕ) → Lot os → All (Against s) os → amount ≤ 1599840 → g ≤ 9999 →
-      (take : ℕ → ℕ) → All (λ o. take o.number ≤ standing o) os →
+  pub fill_best : (s : Side) (b : ℕ) (os : List Order) (amount : ℕ) (mark : Option ℕ) (g : ℕ) → Lot os → AllByRecursion (Against s) os → amount ≤ 1599840 → g ≤ 9999 →
+      (take : ℕ → ℕ) → AllByRecursion (λ o. take o.number ≤ standing o) os →
       sum_by (λ o. take o.number) os ≡ sum_by (fill rule (filter (reached s b) os) amount mark g) (filter (reached s b) os) →
       AtLeastAsGood s
       (sum_by (λ o. price_of o.kind * fill rule (filter (reached s b) os) amount mark g o) (filter (reached s b) os))
@@ -141,11 +141,11 @@ pub record Facts (rule : Sharing) : Type 0 where
   pub rows_taker : (s : Side) (taker : ℕ) (f : Order → ℕ) (os : List Order) → named taker (taker_rows s taker f os) ≡ sum_by f os
   pub rows_contracts : (s : Side) (taker : ℕ) (f : Order → ℕ) (os : List Order) → contracts_in (taker_rows s taker f os) ≡ sum_by f os
   pub rows_total : (s : Side) (taker : ℕ) (f : Order → ℕ) (os : List Order) → total_of (taker_rows s taker f os) ≡ sum_by (λ o. price_of o.kind * f o) os
-  pub rows_taken : (s : Side) (taker : ℕ) (f : Order → ℕ) (os : List Order) → All (Takes s os) (taker_rows s taker f os)
-  pub opening_named : (os : List Order) (p n : ℕ) → Lot os → All (λ o. Fine false o.kind) os → 0 < n →
+  pub rows_taken : (s : Side) (taker : ℕ) (f : Order → ℕ) (os : List Order) → AllByRecursion (Takes s os) (taker_rows s taker f os)
+  pub opening_named : (os : List Order) (p n : ℕ) → Lot os → AllByRecursion (λ o. Fine false o.kind) os → 0 < n →
       named n (opening_rows rule os p) ≡ sum_by (opening_trade rule os p) (filter (λ o. eqb o.number n) os)
-  pub opening_contracts : (os : List Order) (p : ℕ) → Lot os → All (λ o. Fine false o.kind) os → contracts_in (opening_rows rule os p) ≡ matched_volume of_order os p
-  pub opening_rows_of : (os : List Order) (p : ℕ) → All (Opens os p) (opening_rows rule os p)
+  pub opening_contracts : (os : List Order) (p : ℕ) → Lot os → AllByRecursion (λ o. Fine false o.kind) os → contracts_in (opening_rows rule os p) ≡ matched_volume of_order os p
+  pub opening_rows_of : (os : List Order) (p : ℕ) → AllByRecursion (Opens os p) (opening_rows rule os p)
   pub top_some : (os : List Order) (close : ℕ) (x : ℕ × ℕ) → top os close ≡ Some x → (x.1 ≡ matched_volume of_order os x.0) × (on_grid x.0 ≡ true) × (0 < x.1)
   pub top_best : (os : List Order) (close : ℕ) (x : ℕ × ℕ) → top os close ≡ Some x → (q : ℕ) → on_grid q ≡ true →
       ((matched_volume of_order os x.0 < matched_volume of_order os q) ⊎

@@ -1,6 +1,6 @@
 -- Parts that the calls share.
 use Rattle.std.proofs.Common.{◌≡◌, ℕ, ◌+◌, ◌-◌, ◌<◌, ◌≤◌, Bool, true, false, cond, not, ◌&&◌, ◌||◌, eqb, ◌⊎◌, List, [], ◌∷◌, ◌++◌, map, is_some, Some, None, sum_by, filter, Option, sym, refl, ap, ◌∙◌, subst, inl, inr, ⊎_elim, arith}
-use Rattle.std.specs.List.{ContainsAt as Has, AllByRecursion as All}
+use Rattle.std.specs.List.{ContainsAt as Has, AllByRecursion}
 use Rattle.std.proofs.lemmas.List.{append-nil}
 use Rattle.std.proofs.ByRecursion.{kept_by_passes, all-has, All-weaker, All-append, has_append_left}
 use Rattle.std.proofs.lemmas.Bool.{eqb-true, eqb-false, ne_eqb, both_ways, cases_eq, not-true}
@@ -23,17 +23,17 @@ use Rattle.rules.proofs.Matching.{left_none, left_append, left_here, left_past, 
 pub zero_one : ◌≡◌ {A = ℕ} 0 1 → ⊥
 zero_one e = omega arith
 
-pub accepts : (xs : List (ℕ × Bool)) → first_hit xs ≡ None → All (λ x. x.1 ≡ false) xs
+pub accepts : (xs : List (ℕ × Bool)) → first_hit xs ≡ None → AllByRecursion (λ x. x.1 ≡ false) xs
 accepts [] e = tt
 accepts (x ∷ xs) e = go x.1 e (accepts xs)
   where
-    go : (b : Bool) → cond b (Some x.0) (first_hit xs) ≡ None → (first_hit xs ≡ None → All (λ x. x.1 ≡ false) xs) → (b ≡ false) × All (λ x. x.1 ≡ false) xs
+    go : (b : Bool) → cond b (Some x.0) (first_hit xs) ≡ None → (first_hit xs ≡ None → AllByRecursion (λ x. x.1 ≡ false) xs) → (b ≡ false) × AllByRecursion (λ x. x.1 ≡ false) xs
     go true k f = let z : ◌≡◌ {A = ℕ} 0 1 = cc in absurd (zero_one z)
     go false k f = (refl, f k)
 
 -- ---- removals
 
-pub left_kept : (p : Order → Bool) (os : List Order) (n : ℕ) → All (λ o. o.number ≡ n → p o ≡ true) os → left_under (filter p os) n ≡ left_under os n
+pub left_kept : (p : Order → Bool) (os : List Order) (n : ℕ) → AllByRecursion (λ o. o.number ≡ n → p o ≡ true) os → left_under (filter p os) n ≡ left_under os n
 left_kept p os n h =
     ap (sum_by (λ o. o.left.count)) (kept_kept p (λ o. eqb o.number n) os ∙ kept_same (λ o. p o && eqb o.number n) (λ o. eqb o.number n) os
     (All-weaker (λ o. o.number ≡ n → p o ≡ true) (λ o. (p o && eqb o.number n) ≡ eqb o.number n) (λ o k. go (p o) (eqb o.number n) (λ e. k (eqb-true o.number n e))) os h))
@@ -78,7 +78,7 @@ departures_named row os n pos h =
     point : (o : Order) → cond (names n (row o)) (row o).contracts.count 0 ≡ cond (eqb o.number n) o.left.count 0
     point o = (λ t. cond (eqb ((h o).0 t) n || eqb ((h o).1 t) n) ((h o).2 t) 0) ∙ ap (λ b. cond (eqb o.number n || b) (standing o) 0) zero_apart ∙ ap (λ b. cond b (standing o) 0) (go (eqb o.number n))
 
-pub left_each : (low : ℕ) (os : List Order) → Rising (λ (o : Order). o.number) low os → All (λ o. left_under os o.number ≡ standing o) os
+pub left_each : (low : ℕ) (os : List Order) → Rising (λ (o : Order). o.number) low os → AllByRecursion (λ o. left_under os o.number ≡ standing o) os
 left_each low [] h = tt
 left_each low (o ∷ os) h =
     let above = rising_above (λ (p : Order). p.number) o.number o.number os (omega arith) h.1 in (
@@ -125,7 +125,7 @@ without_accounts kind low os o r h n pos = ⊎_elim here past (cases_eq o.number
 
 -- ---- new orders
 
-module _ (next : ℕ) (xs ys : List Order) (low : All (λ (o : Order). o.number < next) xs) (high : All (λ (o : Order). next ≤ o.number) ys) where
+module _ (next : ℕ) (xs ys : List Order) (low : AllByRecursion (λ (o : Order). o.number < next) xs) (high : AllByRecursion (λ (o : Order). next ≤ o.number) ys) where
   pub grown_old : (n : ℕ) → n < next → left_under (xs ++ ys) n ≡ left_under xs n
   grown_old n l = let a = left_append xs ys n in let b = left_none ys n (All-weaker (λ (o : Order). next ≤ o.number) (λ o. o.number ≡ n → ⊥) (λ o k e. omega arith) ys high) in omega arith
 
@@ -138,10 +138,10 @@ module _ (close : ℕ) (st : State) (h : Ledger) (s : Sound close st h) where
   pub orders_rising : Rising (λ (o : Order). o.number) 0 st.orders
   orders_rising = rising_orders (λ b o a. a.number) 0 s.matched s.rising
 
-  pub orders_positive : All (λ (o : Order). 0 < o.number) st.orders
+  pub orders_positive : AllByRecursion (λ (o : Order). 0 < o.number) st.orders
   orders_positive = rising_above (λ (o : Order). o.number) 0 0 st.orders (omega arith) orders_rising
 
-  pub orders_early : All (λ (o : Order). o.number < st.next) st.orders
+  pub orders_early : AllByRecursion (λ (o : Order). o.number < st.next) st.orders
   orders_early = matched_all (λ (o : Order). o.number < st.next) (λ b o r. subst (λ n. n < st.next) (sym r.0.number) r.1) (matched_with (λ (b : Entry). b.number < st.next) s.matched s.numbered)
 
   -- nothing stands under a number that is yet to come
@@ -149,8 +149,8 @@ module _ (close : ℕ) (st : State) (h : Ledger) (s : Sound close st h) where
   none_yet i l = left_none st.orders i (All-weaker (λ (o : Order). o.number < st.next) (λ o. o.number ≡ i → ⊥) (λ o a b. omega arith) st.orders orders_early)
 
   pub step_conserved : (rows : List Row) (os : List Order) (bs : List Entry) → ((n : ℕ) → 0 < n → n < st.next → named n rows + left_under os n ≡ left_under st.orders n) →
-      All (λ (b : Entry). (st.next ≤ b.number) × (named b.number rows + left_under os b.number ≡ b.size)) bs →
-      All (λ (b : Entry). named b.number (h.rows ++ rows) + left_under os b.number ≡ b.size) (h.orders ++ bs)
+      AllByRecursion (λ (b : Entry). (st.next ≤ b.number) × (named b.number rows + left_under os b.number ≡ b.size)) bs →
+      AllByRecursion (λ (b : Entry). named b.number (h.rows ++ rows) + left_under os b.number ≡ b.size) (h.orders ++ bs)
   step_conserved rows os bs acc new =
       All-append (λ (b : Entry). named b.number (h.rows ++ rows) + left_under os b.number ≡ b.size) h.orders bs
       (all_both (λ (b : Entry). (0 < b.number) × (b.number < st.next)) (λ (b : Entry). named b.number h.rows + left_under st.orders b.number ≡ b.size) _ h.orders
@@ -167,7 +167,7 @@ module _ (close : ℕ) (st : State) (h : Ledger) (s : Sound close st h) where
   pub step_rising : (bs : List Entry) → Rising (λ (b : Entry). b.number) (st.next - 1) bs → Rising (λ (b : Entry). b.number) 0 (h.orders ++ bs)
   step_rising bs k = rising_append (λ (b : Entry). b.number) 0 (st.next - 1) h.orders bs s.rising (All-weaker (λ (b : Entry). b.number < st.next) (λ (b : Entry). b.number ≤ st.next - 1) (λ b l. omega arith) h.orders s.numbered) (omega arith) k
 
-  pub step_numbered : (next : ℕ) (bs : List Entry) → st.next ≤ next → All (λ (b : Entry). b.number < next) bs → All (λ (b : Entry). b.number < next) (h.orders ++ bs)
+  pub step_numbered : (next : ℕ) (bs : List Entry) → st.next ≤ next → AllByRecursion (λ (b : Entry). b.number < next) bs → AllByRecursion (λ (b : Entry). b.number < next) (h.orders ++ bs)
   step_numbered next bs l k = All-append (λ (b : Entry). b.number < next) h.orders bs (All-weaker (λ (b : Entry). b.number < st.next) (λ (b : Entry). b.number < next) (λ b m. omega arith) h.orders s.numbered) k
 
 -- the numbers of a running auction's two orders

@@ -1,6 +1,6 @@
 -- Clock, and the calls that add auction orders, keep `Sound`.
 use Rattle.std.proofs.Common.{◌≡◌, ℕ, ◌+◌, ◌<◌, ◌≤◌, Bool, true, false, cond, not, ◌||◌, eqb, List, [], ◌∷◌, ◌++◌, map, get_or, is_some, Some, None, count_by, filter, Option, sym, refl, ap, ◌∙◌, subst, inl, inr, arith}
-use Rattle.std.specs.List.{ContainsAt as Has, AllByRecursion as All}
+use Rattle.std.specs.List.{ContainsAt as Has, AllByRecursion}
 use Rattle.std.proofs.lemmas.List.Sums.{sum_by-append, get_or-le-sum_by}
 use Rattle.std.proofs.lemmas.List.Filters.{sum_by-filter_both}
 use Rattle.std.proofs.ByRecursion.{all_kept_by, All-weaker, All-append, has_append_right}
@@ -112,7 +112,7 @@ module _ (rule : Sharing) (close : ℕ) (st : State) (h : Ledger) (s : Sound clo
         let span = span_fine p.value (not-false (price_in_span p.value) c.1.1.1.1.0) in
         let sized = size_fine n.count c.1.1.1.1.1.0 in
         let idle = no_auction st.auction c.1.1.1.1.1.1.1.0 in
-        let books : All (Roled None) st.orders = subst (λ x. All (Roled x) st.orders) idle s.roled in
+        let books : AllByRecursion (Roled None) st.orders = subst (λ x. AllByRecursion (Roled x) st.orders) idle s.roled in
         let early = orders_early close st h s in
         let customer : Order = new_order st.next m side Customer (limit_at p.value) n.count Auctioned in
         let starter : Order = new_order (st.next + 1) m (other side) MarketMaker (limit_at p.value) n.count Starter in
@@ -163,7 +163,7 @@ module _ (rule : Sharing) (close : ℕ) (st : State) (h : Ledger) (s : Sound clo
   pub swap_sound : (t : ℕ) (p : Order → Bool) (rows : List Row) (new : Order) (b : Entry) (a : Option Auction) →
       ((i : ℕ) → 0 < i → named i rows + left_under (filter p st.orders) i ≡ left_under st.orders i) →
       new.number ≡ st.next → b.number ≡ st.next → b.size ≡ standing new → in_book new.role ≡ false → Agrees st.trading h.opened_at b new → Good st.trading new →
-      All (Roled a) (filter p st.orders) → Roled a new → count_by other_auction (filter p st.orders) + 1 ≤ 32 → st.trading ≡ true →
+      AllByRecursion (Roled a) (filter p st.orders) → Roled a new → count_by other_auction (filter p st.orders) + 1 ≤ 32 → st.trading ≡ true →
       Running a (st.next + 1) (filter p st.orders ++ (new ∷ [])) (h.orders ++ (b ∷ [])) h.customer →
       Sound close (at_time t 1 (filter p st.orders ++ (new ∷ [])) a st) (record { orders = h.orders ++ (b ∷ []); quotes = h.quotes; rows = h.rows ++ rows; opened_at = h.opened_at; customer = h.customer })
   swap_sound t p rows new b a acc nn bn size out agrees good roled roled_new few is-trading running =

@@ -1,6 +1,6 @@
 -- The rows of a taker: what they name, hold and cost.
 use Rattle.std.proofs.Common.{◌≡◌, ℕ, ◌+◌, ◌*◌, Bool, true, false, cond, ◌||◌, eqb, ltb, leb, List, [], ◌∷◌, sum_by, filter, sym, refl, ap, ◌∙◌, arith}
-use Rattle.std.specs.List.{flat_map, ContainsAt as Has, AllByRecursion as All}
+use Rattle.std.specs.List.{flat_map, ContainsAt as Has, AllByRecursion}
 use Rattle.std.proofs.lemmas.List.Sums.{sum_by-cons, sum_by-append}
 use Rattle.std.proofs.ByRecursion.{All-weaker, All-append, all_has_itself}
 use Rattle.std.proofs.lemmas.Bool.{ltb-false, ne_eqb, eq-eqb}
@@ -27,15 +27,15 @@ sum_by_priority φ (o ∷ os) = omega (arith, inserted o (by_priority os), sum_b
         go true e = sum_by-cons φ o (p ∷ ps)
         go false e = omega (arith, sum_by-cons φ p (insert o ps), sum_by-cons φ p ps)
 
-pub all_by_priority : (P : Order → Type 0) (os : List Order) → All P os → All P (by_priority os)
+pub all_by_priority : (P : Order → Type 0) (os : List Order) → AllByRecursion P os → AllByRecursion P (by_priority os)
 all_by_priority P [] h = tt
 all_by_priority P (o ∷ os) h = inserted o (by_priority os) h.0 (all_by_priority P os h.1)
   where
-    inserted : (o : Order) (ps : List Order) → P o → All P ps → All P (insert o ps)
+    inserted : (o : Order) (ps : List Order) → P o → AllByRecursion P ps → AllByRecursion P (insert o ps)
     inserted o [] x h = (x, tt)
     inserted o (p ∷ ps) x h = go (leb (priority o) (priority p)) (inserted o ps x h.1)
       where
-        go : (b : Bool) → All P (insert o ps) → All P (cond b (o ∷ p ∷ ps) (p ∷ insert o ps))
+        go : (b : Bool) → AllByRecursion P (insert o ps) → AllByRecursion P (cond b (o ∷ p ∷ ps) (p ∷ insert o ps))
         go true k = (x, h)
         go false k = (h.0, k)
 
@@ -43,7 +43,7 @@ pub sum_joined : {X Y : Type 0} (φ : Y → ℕ) (k : X → List Y) (xs : List X
 sum_joined φ k [] = refl
 sum_joined φ k (x ∷ xs) = omega (arith, sum_by-append φ (k x) (flat_map k xs), sum_joined φ k xs, sum_by-cons (λ x. sum_by φ (k x)) x xs)
 
-pub all_joined : {X Y : Type 0} (P : Y → Type 0) (k : X → List Y) (xs : List X) → All (λ x. All P (k x)) xs → All P (flat_map k xs)
+pub all_joined : {X Y : Type 0} (P : Y → Type 0) (k : X → List Y) (xs : List X) → AllByRecursion (λ x. AllByRecursion P (k x)) xs → AllByRecursion P (flat_map k xs)
 all_joined P k [] h = tt
 all_joined P k (x ∷ xs) h = All-append P (k x) (flat_map k xs) h.0 (all_joined P k xs h.1)
 
@@ -61,10 +61,10 @@ module _ (s : Side) (taker : ℕ) (f : Order → ℕ) where
       go true o k = omega (arith, sum_by-cons ψ (row o) [], e o)
       go false o k = omega (arith, z o (omega (arith, ltb-false 0 (f o) k)))
 
-  pub rows_all : (P : Row → Type 0) (os : List Order) → All (λ o. P (row o)) os → All P (taker_rows s taker f os)
-  rows_all P os h = all_joined P (λ o. cond (ltb 0 (f o)) (row o ∷ []) []) (by_priority os) (all_by_priority (λ o. All P (cond (ltb 0 (f o)) (row o ∷ []) [])) os (All-weaker (λ o. P (row o)) _ (λ o k. go (ltb 0 (f o)) o k) os h))
+  pub rows_all : (P : Row → Type 0) (os : List Order) → AllByRecursion (λ o. P (row o)) os → AllByRecursion P (taker_rows s taker f os)
+  rows_all P os h = all_joined P (λ o. cond (ltb 0 (f o)) (row o ∷ []) []) (by_priority os) (all_by_priority (λ o. AllByRecursion P (cond (ltb 0 (f o)) (row o ∷ []) [])) os (All-weaker (λ o. P (row o)) _ (λ o k. go (ltb 0 (f o)) o k) os h))
     where
-      go : (b : Bool) (o : Order) → P (row o) → All P (cond b (row o ∷ []) [])
+      go : (b : Bool) (o : Order) → P (row o) → AllByRecursion P (cond b (row o ∷ []) [])
       go true o k = (k, tt)
       go false o k = tt
 
@@ -114,7 +114,7 @@ rows_contracts s taker f os = rows_sum s taker f (λ r. r.contracts.count) f os 
 pub rows_total : (s : Side) (taker : ℕ) (f : Order → ℕ) (os : List Order) → total_of (taker_rows s taker f os) ≡ sum_by (λ o. price_of o.kind * f o) os
 rows_total s taker f os = rows_sum s taker f (λ r. r.price.value * r.contracts.count) (λ o. price_of o.kind * f o) os (row_total s taker f) (λ o e. ap (λ m. price_of o.kind * m) e ∙ omega arith)
 
-pub rows_taken : (s : Side) (taker : ℕ) (f : Order → ℕ) (os : List Order) → All (Takes s os) (taker_rows s taker f os)
+pub rows_taken : (s : Side) (taker : ℕ) (f : Order → ℕ) (os : List Order) → AllByRecursion (Takes s os) (taker_rows s taker f os)
 rows_taken s taker f os = rows_all s taker f (Takes s os) os (All-weaker (Has os) _ (λ o h. go s o h) os (all_has_itself os))
   where
     go : (s : Side) (o : Order) → Has os o → Takes s os (trade s taker o.number (price_of o.kind) (f o))

@@ -1,6 +1,6 @@
 -- The opening price is never outdone on the grid.
 use Rattle.std.proofs.Common.{◌≡◌, ℕ, zero, suc, ◌+◌, ◌<◌, ◌≤◌, Bool, true, false, cond, ◌&&◌, ◌||◌, eqb, ltb, leb, ◌⊎◌, List, [], ◌∷◌, Some, None, filter, Option, sym, refl, ap, ◌∙◌, subst, inl, inr, ⊎_elim, arith}
-use Rattle.std.specs.List.{ContainsAt as Has, AllByRecursion as All, best_of}
+use Rattle.std.specs.List.{ContainsAt as Has, AllByRecursion, best_of}
 use Rattle.std.specs.Cmp.{IsStrictWeakOrder}
 use Rattle.std.proofs.lemmas.List.MinMax.{IsStrictWeakOrder-by_number, IsFirstBest-from_best_of}
 use Rattle.std.proofs.ByRecursion.{kept_by_passes}
@@ -98,13 +98,13 @@ grid_has : (q : ℕ) → on_grid q ≡ true → Has grid q
 unfolding grid
 grid_has q e = gridded_has 99999 q e (leb-true q 99999 (and_parts (leb 1 q) _ (and_parts (price_in_span q) _ e).0).1)
 
-grid_all : All (λ q. on_grid q ≡ true) grid
+grid_all : AllByRecursion (λ q. on_grid q ≡ true) grid
 unfolding grid
 grid_all = kept_by_passes on_grid (counted 1 99999)
 
 -- ---- the best price
 
-best_all : {X : Type 0} (beats : X → X → Bool) (P : X → Type 0) (a : X) (xs : List X) → P a → All P xs → P (best_of beats a xs)
+best_all : {X : Type 0} (beats : X → X → Bool) (P : X → Type 0) (a : X) (xs : List X) → P a → AllByRecursion P xs → P (best_of beats a xs)
 best_all beats P a [] p h = p
 best_all beats P a (x ∷ xs) p h = best_all beats P (cond (beats x a) x a) xs (go (beats x a)) h.1
   where

@@ -1,6 +1,6 @@
 -- Trades: what is taken from the orders that are hit, and what rests of an entering order.
 use Rattle.std.proofs.Common.{◌≡◌, ℕ, suc, ◌+◌, ◌<◌, ◌≤◌, Bool, true, false, cond, not, ◌&&◌, eqb, ltb, List, [], ◌∷◌, map, length, Some, None, sum_by, count_by, filter, Option, refl, ap, ◌∙◌, inl, inr, arith}
-use Rattle.std.specs.List.{AllByRecursion as All}
+use Rattle.std.specs.List.{AllByRecursion}
 use Rattle.std.proofs.ByRecursion.{all_kept_by, kept_by_passes, All-weaker, All-map}
 use Rattle.std.proofs.lemmas.Bool.{eqb-true, eqb-false, ltb-true}
 use Rattle.market.specs.declared.auction.Auction.{Auction}
@@ -37,7 +37,7 @@ roled_trade None o q r = r
 roled_trade (Some a) o q (inl r) = inl r
 roled_trade (Some a) o q (inr r) = inr r
 
-module _ (hit : Order → Bool) (f : Order → ℕ) (os : List Order) (fits : All (λ o. hit o ≡ true → f o ≤ standing o) os) where
+module _ (hit : Order → Bool) (f : Order → ℕ) (os : List Order) (fits : AllByRecursion (λ o. hit o ≡ true → f o ≤ standing o) os) where
   abbrev pub traded : List Order
   traded = live (map (λ o. cond (hit o) (after_trade (f o) o) o) os)
 
@@ -61,12 +61,12 @@ module _ (hit : Order → Bool) (f : Order → ℕ) (os : List Order) (fits : Al
       point true o k = (refl, omega (arith, k refl))
       point false o k = (refl, omega arith)
 
-  pub traded_all : (P : Order → Type 0) → ((o : Order) (q : ℕ) → P o → P (after_trade q o)) → All P os → All P traded
+  pub traded_all : (P : Order → Type 0) → ((o : Order) (q : ℕ) → P o → P (after_trade q o)) → AllByRecursion P os → AllByRecursion P traded
   traded_all P keeps h =
       all_kept_by (λ o. ltb 0 (standing o)) P (map (λ o. cond (hit o) (after_trade (f o) o) o) os)
       (All-map P (λ o. cond (hit o) (after_trade (f o) o) o) os (All-weaker P _ (λ o k. hit_either (hit o) (f o) o P (keeps o (f o) k) k) os h))
 
-  traded_adds : All AddsUp os → All AddsUp traded
+  traded_adds : AllByRecursion AddsUp os → AllByRecursion AddsUp traded
   traded_adds h =
       all_kept_by (λ o. ltb 0 (standing o)) AddsUp (map (λ o. cond (hit o) (after_trade (f o) o) o) os)
       (All-map AddsUp (λ o. cond (hit o) (after_trade (f o) o) o) os (all_both (λ o. hit o ≡ true → f o ≤ standing o) AddsUp _ os (λ o k a. point (hit o) o k a) fits h))
@@ -75,7 +75,7 @@ module _ (hit : Order → Bool) (f : Order → ℕ) (os : List Order) (fits : Al
       point true o k a = omega (arith, k refl, a)
       point false o k a = a
 
-  pub traded_good : (t : Bool) → All (Good t) os → All (Good t) traded
+  pub traded_good : (t : Bool) → AllByRecursion (Good t) os → AllByRecursion (Good t) traded
   traded_good t g =
       all_both (λ o. (ltb 0 (standing o) ≡ true) × AddsUp o) (λ o. (standing o ≤ 9999) × Fine t o.kind) (Good t) traded
       (λ o x y. record { some_left = ltb-true 0 (standing o) x.0; at_most = y.0; fine = y.1; adds = x.1 })
@@ -109,7 +109,7 @@ positive : (n : ℕ) → (n ≡ 0 → ⊥) → 0 < n
 positive n k = omega arith
 
 pub record Rests (o : Order) (rest price : ℕ) (x : List Order × List Row) : Type 0 where
-  pub these : All (λ r. (r.number ≡ o.number) × (r.side ≡ o.side) × (r.role ≡ o.role) × (price_of r.kind ≡ price) × (0 < standing r) × (standing r ≤ rest) × Fine true r.kind × AddsUp r) x.0
+  pub these : AllByRecursion (λ r. (r.number ≡ o.number) × (r.side ≡ o.side) × (r.role ≡ o.role) × (price_of r.kind ≡ price) × (0 < standing r) × (standing r ≤ rest) × Fine true r.kind × AddsUp r) x.0
   pub few : length x.0 ≤ 1
   pub account : named o.number x.1 + left_under x.0 o.number ≡ rest
   pub elsewhere : (i : ℕ) → 0 < i → (o.number ≡ i → ⊥) → named i x.1 ≡ 0
@@ -158,7 +158,7 @@ module _ (o : Order) (rest far end : ℕ) (pos : 0 < o.number) (fine : Fine true
   pub rests : (a : Account) (reached : Bool) → Rests o rest (cond (reached && not (market_maker a)) far (price_of o.kind)) (remainder o rest a reached far end)
   rests a reached = rests_by (eqb rest 0) reached (market_maker a) refl
 
-pub rest_matched : (R : Entry → Order → Type 0) (b : Entry) (xs : List Order) → length xs ≤ 1 → All (R b) xs → Matched (λ b. Unit {0}) R (b ∷ []) xs
+pub rest_matched : (R : Entry → Order → Type 0) (b : Entry) (xs : List Order) → length xs ≤ 1 → AllByRecursion (R b) xs → Matched (λ b. Unit {0}) R (b ∷ []) xs
 rest_matched R b [] l h = spent tt none
 rest_matched R b (x ∷ []) l h = stands_as h.0 none
 rest_matched R b (x ∷ y ∷ xs) l h = absurd (go (length xs) l)
@@ -172,7 +172,7 @@ abbrev Below : Option ℕ → Type 0
 Below (Some v) = v ≤ 99999
 Below None = Unit {0}
 
-best_below : (s : Side) (ps : List (Option ℕ)) → All Below ps → Below (best_among s ps)
+best_below : (s : Side) (ps : List (Option ℕ)) → AllByRecursion Below ps → Below (best_among s ps)
 best_below s [] h = tt
 best_below s (p ∷ ps) h = go s p (best_among s ps) h.0 (best_below s ps h.1)
   where
@@ -186,7 +186,7 @@ best_below s (p ∷ ps) h = go s p (best_among s ps) h.0 (best_below s ps h.1)
     go Sell None (Some q) a b = b
     go Sell None None a b = tt
 
-pub away_below : (s : Side) (qs : List Quote) → All (λ (q : Quote). Spanned q.bid × Spanned q.offer) qs → or_else (away_best s qs) 0 ≤ 99999
+pub away_below : (s : Side) (qs : List Quote) → AllByRecursion (λ (q : Quote). Spanned q.bid × Spanned q.offer) qs → or_else (away_best s qs) 0 ≤ 99999
 away_below s qs h = last (away_best s qs) (best_below s (map (quoted s) qs) (All-map Below (quoted s) qs (All-weaker (λ (q : Quote). Spanned q.bid × Spanned q.offer) (λ q. Below (quoted s q)) (λ q k. one s q k) qs h)))
   where
     each : (c : Option Cents) → Spanned c → Below (cents c)

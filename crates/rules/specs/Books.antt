@@ -1,6 +1,6 @@
 -- Worked books, each through the calls themselves.
 use Rattle.std.specs.Prelude.{◌≡◌, ℕ, false, List, [], ◌∷◌, ◌++◌, length, take, replicate, Some, None}
-use Rattle.std.specs.List.{AllByRecursion as All}
+use Rattle.std.specs.List.{AllByRecursion}
 use Rattle.market.specs.declared.order.Account.{Account}
 use Rattle.market.specs.declared.order.Account.TheVariants.{Customer, MarketMaker}
 use Rattle.market.specs.declared.order.OrderKind.{OrderKind}
@@ -173,7 +173,7 @@ books =
 
 -- all of them; in book 2 the surplus is 0, in book 7 the total is 4,155 either way; 8. 15 pro rata for 20 and 20 are 8 and 7
 pub record BooksHold : Type 0 where
-  pub every_book : All Holds books
+  pub every_book : AllByRecursion Holds books
   pub no_surplus : surplus of_order (run time_with_guarantee 1 100 calls2).state.orders 105 ≡ 0
   pub total_by_time : total_of (t_rows book7_time.rows) ≡ 4155
   pub total_pro_rata : total_of (t_rows book7_pro_rata.rows) ≡ 4155

@@ -1,6 +1,6 @@
 -- No sequence of calls can deny an order the best terms on offer: said of calls, answers and rows.
 use Rattle.std.specs.Prelude.{◌≡◌, ℕ, ◌+◌, ◌*◌, ◌<◌, ◌≤◌, min, true, not, ◌&&◌, ◌⊎◌, List, [], ◌∷◌, take, Some, None, sum_by, filter, Option}
-use Rattle.std.specs.List.{ContainsAt as Has, AllByRecursion as All}
+use Rattle.std.specs.List.{ContainsAt as Has, AllByRecursion}
 use Rattle.market.specs.Refusals.{first_hit}
 use Rattle.market.specs.Spans.{on_grid, price_in_span}
 use Rattle.market.specs.declared.order.Side.{Side}
@@ -56,9 +56,9 @@ pub record Best-opening (close : ℕ) (h : Ledger) (opens : Option (ℕ × ℕ))
   pub announced : Announced h opens
   pub never_outdone : (q : ℕ) → on_grid q ≡ true → Outdone h close q opens → ⊥
   pub all_of_it : contracts_in (t_rows rows) ≡ opening_volume h opens
-  pub one_price : All (λ r. AtPrice opens r.price.value) (t_rows rows)
-  pub buyers_willing : All (λ r. WillingAt h Buy opens r.first) (t_rows rows)
-  pub sellers_willing : All (λ r. WillingAt h Sell opens r.second) (t_rows rows)
+  pub one_price : AllByRecursion (λ r. AtPrice opens r.price.value) (t_rows rows)
+  pub buyers_willing : AllByRecursion (λ r. WillingAt h Buy opens r.first) (t_rows rows)
+  pub sellers_willing : AllByRecursion (λ r. WillingAt h Sell opens r.second) (t_rows rows)
 
 -- ---- the best trades of one order
 
@@ -77,7 +77,7 @@ AtLeastAsGood Sell mine theirs = theirs ≤ mine
 
 -- a choice takes contracts from the orders against one, up to the balance of each
 abbrev pub Choice : Ledger → List Entry → (ℕ → ℕ) → Type 0
-Choice h against chosen = All (λ b. chosen b.number ≤ balance h b) against
+Choice h against chosen = AllByRecursion (λ b. chosen b.number ≤ balance h b) against
 
 abbrev pub chosen_contracts : List Entry → (ℕ → ℕ) → ℕ
 chosen_contracts against chosen = sum_by (λ b. chosen b.number) against
@@ -88,9 +88,9 @@ chosen_total h against chosen = sum_by (λ b. stands h b * chosen b.number) agai
 -- the rows are the order's own; no choice of as many contracts has a better total; each is at the price where the order
 -- against it stands
 pub record BestTrades (number : ℕ) (s : Side) (h : Ledger) (against : List Entry) (rows : List Row) : Type 0 where
-  pub its_own : All (λ r. taker s r ≡ number) rows
+  pub its_own : AllByRecursion (λ r. taker s r ≡ number) rows
   pub none_better : (chosen : ℕ → ℕ) → Choice h against chosen → chosen_contracts against chosen ≡ contracts_in rows → AtLeastAsGood s (total_of rows) (chosen_total h against chosen)
-  pub at_their_prices : All (λ r. (b : Entry) × Has against b × (b.number ≡ maker s r) × (stands h b ≡ r.price.value)) rows
+  pub at_their_prices : AllByRecursion (λ r. (b : Entry) × Has against b × (b.number ≡ maker s r) × (stands h b ≡ r.price.value)) rows
 
 -- orders of place and enter on the other side
 abbrev pub contra_orders : Side → Ledger → List Entry
@@ -104,7 +104,7 @@ allowed s limit h = sum_by (balance h) (filter (λ b. within s limit (stands h b
 pub record BestEntry (number : ℕ) (s : Side) (size limit : ℕ) (h : Ledger) (rows : List Row) : Type 0 where
   pub as_much_as_allowed : min size (allowed s limit h) ≤ contracts_in rows
   pub best : BestTrades number s h (contra_orders s h) rows
-  pub within_bound : All (λ r. within s limit r.price.value ≡ true) rows
+  pub within_bound : AllByRecursion (λ r. within s limit r.price.value ≡ true) rows
 
 -- an auctioned order trades its whole size on the best terms, among all orders against it
 pub record BestAuction (number : ℕ) (s : Side) (size : ℕ) (h : Ledger) (rows : List Row) : Type 0 where
@@ -137,7 +137,7 @@ FairEvent close h e = elim e.answer [ refused r ↦ Unit {0} | accepted count ns
 -- contracts in the rows that name an order and what the question left answers of it are its size
 abbrev pub Conserved : Day → Type 0
 Conserved d =
-    All (λ b. (n : ℕ) → reply d.state (ask_left b.number) ≡ contracts_left n → named b.number (ledger d.events).rows + n ≡ b.size)
+    AllByRecursion (λ b. (n : ℕ) → reply d.state (ask_left b.number) ≡ contracts_left n → named b.number (ledger d.events).rows + n ≡ b.size)
     (ledger d.events).orders
 
 -- every later order has a higher number, the first at least 1
@@ -165,7 +165,7 @@ NoOrderDenied = (rule : Sharing) → Lawful rule → BestTerms rule
 -- in every order record of every run, what is left, traded and gone adds up to the size
 abbrev pub RecordsAddUp : Type 0
 RecordsAddUp =
-    (rule : Sharing) → Lawful rule → (number close : ℕ) (calls : List Call) → All AddsUp (run rule number close calls).state.orders
+    (rule : Sharing) → Lawful rule → (number close : ℕ) (calls : List Call) → AllByRecursion AddsUp (run rule number close calls).state.orders
 
 -- both delivered rules are lawful, so the law holds of them
 abbrev pub DeliveredRulesLawful : Type 0

@@ -1,6 +1,6 @@
 -- What a call owes, once its checks are known.
 use Rattle.std.proofs.Common.{◌≡◌, ℕ, ◌+◌, Bool, false, List, [], ◌∷◌, ◌++◌, length, drop, Some, None, Option, ap, ◌∙◌}
-use Rattle.std.specs.List.{AllByRecursion as All}
+use Rattle.std.specs.List.{AllByRecursion}
 use Rattle.market.specs.Refusals.{first_hit}
 use Rattle.market.proofs.Tables.{clear}
 use Rattle.market.specs.declared.auction.Auction.{Auction}
@@ -13,7 +13,7 @@ use Rattle.sharing.specs.Sharing.{Sharing}
 use Rattle.series.specs.Answers.{Answers}
 
 -- no check of an accepted call hits
-pub all_clear : (cs : List (ℕ × Bool)) → None ≡ first_hit cs → All (λ c. c.1 ≡ false) cs
+pub all_clear : (cs : List (ℕ × Bool)) → None ≡ first_hit cs → AllByRecursion (λ c. c.1 ≡ false) cs
 all_clear [] e = tt
 all_clear (c ∷ cs) e = let k = clear c.0 c.1 cs e in (k.0, all_clear cs k.1)
 

@@ -1,6 +1,6 @@
 -- The entry of an order, from what each step of the code leaves.
 use Rattle.std.proofs.Common.{◌≡◌, ℕ, ◌+◌, ◌-◌, ◌<◌, ◌≤◌, Bool, true, false, cond, ◌&&◌, eqb, ltb, List, [], ◌∷◌, ◌++◌, map, length, take, drop, Some, None, sum_by, count_by, filter, Option, sym, refl, ap, ◌∙◌, subst, arith}
-use Rattle.std.specs.List.{AllByRecursion as All}
+use Rattle.std.specs.List.{AllByRecursion}
 use Rattle.std.proofs.ByRecursion.{All-map, All-weaker}
 use Rattle.std.proofs.lemmas.List.{append_assoc, append-nil, length-append, take_at}
 use Rattle.std.proofs.lemmas.Slice.{drop-append-drop}
@@ -98,10 +98,10 @@ module _ (o : Order) (before : Table) (order : Enterable o before) (os : List Or
       (subst (λ (r : Role). role_room r os ≡ true) (sym order.role) (lt-ltb (count_by booked os) 128 (omega arith)))
 
   pub remainder_fits : (stand : List Order) (rest : ℕ) (a : Account) (reached : Bool) (far end : ℕ) → stand ≡ (remainder o rest a reached far end).0 → rest ≤ o.size.count → far ≤ 99999 →
-      All (λ x. admissible x os next ≡ true) stand
+      AllByRecursion (λ x. admissible x os next ≡ true) stand
   remainder_fits stand rest a reached far end is le small =
-      subst (All (λ (x : Order). admissible x os next ≡ true)) (sym is)
-      (remainder_cases (All (λ (x : Order). admissible x os next ≡ true)) o rest a reached far end tt
+      subst (AllByRecursion (λ (x : Order). admissible x os next ≡ true)) (sym is)
+      (remainder_cases (AllByRecursion (λ (x : Order). admissible x os next ≡ true)) o rest a reached far end tt
       (fits_one rest o.kind None le order.price, tt)
       (fits_one rest (limit_at far) (Some (record { count = end })) le small, tt))
 

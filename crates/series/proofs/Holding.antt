@@ -1,6 +1,6 @@
 -- What the invariant of a series says.
 use Rattle.std.proofs.Common.{◌≡◌, Bool, true, not, ◌&&◌, ◌||◌, eqb, List, [], ◌∷◌, ◌++◌, Some, None, filter, Option, ap, ◌∙◌}
-use Rattle.std.specs.List.{list_all, AllByRecursion as All}
+use Rattle.std.specs.List.{list_all, AllByRecursion}
 use Rattle.std.proofs.ByRecursion.{All-append, all_kept_by}
 use Rattle.std.proofs.lemmas.Bool.{and_parts, and_from}
 use Rattle.market.specs.Words.{in_book, auctioned, same_side}
@@ -13,13 +13,13 @@ use Rattle.series.specs.Held.{auction_in_span, belongs, starter_stands, held_wel
 use Rattle.series.proofs.Starters.{stands_pushed}
 
 module _ (au : Option Auction) (os : List Order) where
-  pub held_parts : held_well au os ≡ true → (auction_in_span au ≡ true) × All (λ o. belongs au o ≡ true) os × (starter_stands au os ≡ true)
+  pub held_parts : held_well au os ≡ true → (auction_in_span au ≡ true) × AllByRecursion (λ o. belongs au o ≡ true) os × (starter_stands au os ≡ true)
   held_parts h =
       let b = and_parts (auction_in_span au && list_all (belongs au) os) (starter_stands au os) h in
       let d = and_parts (auction_in_span au) (list_all (belongs au) os) b.0 in
       (d.0, pass_all (belongs au) os d.1, b.1)
 
-  pub held_from : auction_in_span au ≡ true → All (λ o. belongs au o ≡ true) os → starter_stands au os ≡ true → held_well au os ≡ true
+  pub held_from : auction_in_span au ≡ true → AllByRecursion (λ o. belongs au o ≡ true) os → starter_stands au os ≡ true → held_well au os ≡ true
   held_from s h k =
       and_from (auction_in_span au && list_all (belongs au) os) (starter_stands au os) (and_from (auction_in_span au) (list_all (belongs au) os) s (all_passes (belongs au) os h)) k
 

@@ -1,6 +1,6 @@
 -- An order of an auction takes the place of another, or of none.
 use Rattle.std.proofs.Common.{◌≡◌, ℕ, ◌+◌, ◌<◌, ◌≤◌, Bool, true, false, cond, not, ◌&&◌, ◌||◌, eqb, ltb, List, [], ◌∷◌, ◌++◌, is_some, Some, None, count_by, Option, sym, refl, ap, ◌∙◌, subst, arith}
-use Rattle.std.specs.List.{AllByRecursion as All}
+use Rattle.std.specs.List.{AllByRecursion}
 use Rattle.std.proofs.ByRecursion.{All-append, all_kept_by}
 use Rattle.std.proofs.lemmas.List.Sums.{sum_by-cons}
 use Rattle.std.proofs.lemmas.Bool.{and_parts, both_ways, eqb-true, eq-eqb, leb-true, leb-false, cond-false, cond_both}
@@ -113,7 +113,7 @@ bettering_room st a h le = go (starter_order st a) refl
 
 -- ---- the invariant of the series
 
-all_without : (P : Order → Type 0) (old : Option Order) (os : List Order) → All P os → All P (without_old old os)
+all_without : (P : Order → Type 0) (old : Option Order) (os : List Order) → AllByRecursion P os → AllByRecursion P (without_old old os)
 all_without P (Some o) os h = all_kept_by (λ x. not (eqb x.number o.number)) P os h
 all_without P None os h = h
 

@@ -1,6 +1,6 @@
 -- The starter's order stands while its auction runs.
 use Rattle.std.proofs.Common.{◌≡◌, ℕ, ◌<◌, ◌≤◌, Bool, true, false, cond, not, ◌&&◌, eqb, ltb, List, [], ◌∷◌, ◌++◌, map, is_some, Some, None, count_by, filter, Option, refl, ap, subst, arith}
-use Rattle.std.specs.List.{AllByRecursion as All}
+use Rattle.std.specs.List.{AllByRecursion}
 use Rattle.std.proofs.ByRecursion.{All-weaker}
 use Rattle.std.proofs.lemmas.List.Sums.{sum_by-append}
 use Rattle.std.proofs.lemmas.Bool.{and_parts, and_from, both_ways, ltb-true, leb-true, le-leb}
@@ -29,7 +29,7 @@ over false true k = omega arith
 over false false k = omega arith
 
 module _ (q : Order → Bool) where
-  count_keeps : (p : Order → Bool) (os : List Order) → All (λ x. q x ≡ true → p x ≡ true) os → count_by q os ≤ count_by q (filter p os)
+  count_keeps : (p : Order → Bool) (os : List Order) → AllByRecursion (λ x. q x ≡ true → p x ≡ true) os → count_by q os ≤ count_by q (filter p os)
   count_keeps p os h =
       omega (
         arith,
@@ -37,7 +37,7 @@ module _ (q : Order → Bool) where
         sum_under (λ (x : Order). cond (q x) 1 0) (λ (x : Order). cond (p x) (cond (q x) 1 0) 0) os (All-weaker (λ (x : Order). q x ≡ true → p x ≡ true) (λ (x : Order). cond (q x) 1 0 ≤ cond (p x) (cond (q x) 1 0) 0) (λ x k. under (q x) (p x) k) os h),
       )
 
-  count_maps : (g : Order → Order) (os : List Order) → All (λ x. q x ≡ true → q (g x) ≡ true) os → count_by q os ≤ count_by q (map g os)
+  count_maps : (g : Order → Order) (os : List Order) → AllByRecursion (λ x. q x ≡ true → q (g x) ≡ true) os → count_by q os ≤ count_by q (map g os)
   count_maps g os h =
       omega (
         arith,
@@ -45,11 +45,11 @@ module _ (q : Order → Bool) where
         sum_under (λ (x : Order). cond (q x) 1 0) (λ (x : Order). cond (q (g x)) 1 0) os (All-weaker (λ (x : Order). q x ≡ true → q (g x) ≡ true) (λ (x : Order). cond (q x) 1 0 ≤ cond (q (g x)) 1 0) (λ x k. over (q x) (q (g x)) k) os h),
       )
 
-pub stands_kept : (au : Option Auction) (p : Order → Bool) (os : List Order) → ((a : Auction) → All (λ x. starters_order a x ≡ true → p x ≡ true) os) → starter_stands au os ≡ true → starter_stands au (filter p os) ≡ true
+pub stands_kept : (au : Option Auction) (p : Order → Bool) (os : List Order) → ((a : Auction) → AllByRecursion (λ x. starters_order a x ≡ true → p x ≡ true) os) → starter_stands au os ≡ true → starter_stands au (filter p os) ≡ true
 stands_kept None p os k h = refl
 stands_kept (Some a) p os k h = let c = leb-true 1 (count_by (starters_order a) os) h in le-leb 1 (count_by (starters_order a) (filter p os)) (omega (arith, count_keeps (starters_order a) p os (k a)))
 
-pub stands_mapped : (au : Option Auction) (g : Order → Order) (os : List Order) → ((a : Auction) → All (λ x. starters_order a x ≡ true → starters_order a (g x) ≡ true) os) → starter_stands au os ≡ true → starter_stands au (map g os) ≡ true
+pub stands_mapped : (au : Option Auction) (g : Order → Order) (os : List Order) → ((a : Auction) → AllByRecursion (λ x. starters_order a x ≡ true → starters_order a (g x) ≡ true) os) → starter_stands au os ≡ true → starter_stands au (map g os) ≡ true
 stands_mapped None g os k h = refl
 stands_mapped (Some a) g os k h = let c = leb-true 1 (count_by (starters_order a) os) h in le-leb 1 (count_by (starters_order a) (map g os)) (omega (arith, count_maps (starters_order a) g os (k a)))
 
@@ -78,7 +78,7 @@ lasting t (Some x) h = absurd (both_ways false refl h)
 lasting t None h = refl
 
 -- numbers are used once
-above : (low : ℕ) (os : List Order) (top : ℕ) → rises low os top ≡ true → All (λ x. low < x.number) os
+above : (low : ℕ) (os : List Order) (top : ℕ) → rises low os top ≡ true → AllByRecursion (λ x. low < x.number) os
 above low [] top h = tt
 above low (o ∷ os) top h =
     let b = and_parts (ltb low o.number) (rises o.number os top) h in
@@ -102,14 +102,14 @@ module _ (p : Order → Bool) (n : ℕ) (num : (x : Order) → p x ≡ true → 
       go true k f lt rec = omega (arith, num x k)
       go false k f lt rec = omega (arith, rec f)
 
-  pub others : (q : Order → Bool) → ((x : Order) → p x ≡ true → q x ≡ true → ⊥) → (low : ℕ) (os : List Order) (top : ℕ) (o : Order) → rises low os top ≡ true → found p os ≡ Some o → All (λ x. q x ≡ true → not (eqb x.number n) ≡ true) os
+  pub others : (q : Order → Bool) → ((x : Order) → p x ≡ true → q x ≡ true → ⊥) → (low : ℕ) (os : List Order) (top : ℕ) (o : Order) → rises low os top ≡ true → found p os ≡ Some o → AllByRecursion (λ x. q x ≡ true → not (eqb x.number n) ≡ true) os
   others q no_both low [] top o h e = tt
   others q no_both low (x ∷ xs) top o h e =
       let b = and_parts (ltb low x.number) (rises x.number xs top) h in
       go (p x) refl e (above x.number xs top b.1) (found_above x.number xs top o b.1) (others q no_both x.number xs top o b.1)
     where
-      go : (c : Bool) → p x ≡ c → cond c (Some x) (found p xs) ≡ Some o → All (λ y. x.number < y.number) xs → (found p xs ≡ Some o → x.number < n) → (found p xs ≡ Some o → All (λ y. q y ≡ true → not (eqb y.number n) ≡ true) xs) →
-          (q x ≡ true → not (eqb x.number n) ≡ true) × All (λ y. q y ≡ true → not (eqb y.number n) ≡ true) xs
+      go : (c : Bool) → p x ≡ c → cond c (Some x) (found p xs) ≡ Some o → AllByRecursion (λ y. x.number < y.number) xs → (found p xs ≡ Some o → x.number < n) → (found p xs ≡ Some o → AllByRecursion (λ y. q y ≡ true → not (eqb y.number n) ≡ true) xs) →
+          (q x ≡ true → not (eqb x.number n) ≡ true) × AllByRecursion (λ y. q y ≡ true → not (eqb y.number n) ≡ true) xs
       go true k f hi lt rec = (λ r. absurd (no_both x k r), All-weaker (λ (y : Order). x.number < y.number) (λ (y : Order). q y ≡ true → not (eqb y.number n) ≡ true) (λ y l _. unlike' y.number n (omega (arith, num x k))) xs hi)
       go false k f hi lt rec = (λ _. unlike x.number n (lt f), rec f)
 

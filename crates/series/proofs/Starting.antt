@@ -1,6 +1,6 @@
 -- The orders of a new auction.
 use Rattle.std.proofs.Common.{◌≡◌, ℕ, ◌+◌, ◌≤◌, Bool, true, false, cond, not, ◌&&◌, ◌||◌, eqb, leb, List, [], ◌∷◌, ◌++◌, length, is_some, Some, None, count_by, Option, sym, refl, ap, ◌∙◌, arith}
-use Rattle.std.specs.List.{AllByRecursion as All}
+use Rattle.std.specs.List.{AllByRecursion}
 use Rattle.std.proofs.ByRecursion.{All-append, All-weaker}
 use Rattle.std.proofs.lemmas.List.{append_assoc}
 use Rattle.std.proofs.lemmas.List.Sums.{sum_by-cons}
@@ -22,7 +22,7 @@ pub none_of : {A : Type 0} (x : Option A) → is_some x ≡ false → x ≡ None
 none_of (Some x) e = absurd (both_ways true e refl)
 none_of None e = refl
 
-all_booked : (os : List Order) → All (λ o. booked o ≡ true) os → count_by booked os ≡ length os
+all_booked : (os : List Order) → AllByRecursion (λ o. booked o ≡ true) os → count_by booked os ≡ length os
 all_booked [] h = refl
 all_booked (o ∷ os) h =
     let one : ◌≡◌ {A = ℕ} (cond (booked o) 1 0) 1 = ap (λ (b : Bool). cond {A = ℕ} b 1 0) h.0 in

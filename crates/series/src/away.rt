@@ -5,10 +5,10 @@ ghost use Rattle.rules.specs.Prices.{cents, away_best};
 ghost use Rattle.rules.specs.Series.{no_quotes};
 ghost use Rattle.series.specs.Quotes.{quote_in_span, quotes_in_span};
 
-use orders::prices::away_best;
 use market::order::Side;
 use market::quote::Quote;
 use market::units::Cents;
+use orders::prices::away_best;
 
 const NO_QUOTE: Quote = Quote {
     bid: None,

@@ -4,10 +4,10 @@ ghost use Rattle.orders.specs.Orders.{orders};
 ghost use Rattle.series.specs.Held.{held_well, opened_or_quiet};
 
 use crate::away::AwayQuotes;
-use orders::table::Table;
 use market::auction::Auction;
 use market::close::Close;
 use market::units::Millis;
+use orders::table::Table;
 
 mod auction_calls;
 mod auction_checks;

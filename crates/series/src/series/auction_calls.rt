@@ -19,12 +19,12 @@ use crate::pass::TradingPass;
 use crate::series::Series;
 use crate::series::orders::{maker_order, new_order, replace_order};
 use crate::ticket::Ticket;
-use orders::table::Table;
 use market::auction::Auction;
 use market::order::{Account, OrderKind, Role, Side};
 use market::refusal::Refusal;
 use market::row::Row;
 use market::units::{Cents, Contracts, Millis};
+use orders::table::Table;
 use sharing::rule::SharingRule;
 
 // How long an auction runs.

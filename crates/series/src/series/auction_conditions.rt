@@ -9,11 +9,11 @@ ghost use Rattle.series.specs.Tickets.{shown};
 
 use crate::series::Series;
 use crate::ticket::Ticket;
-use orders::prices::{better_price, book_best, is_better};
-use orders::select::{Filter, count, find};
 use market::auction::Auction;
 use market::order::{Order, Side};
 use market::units::{Cents, Contracts, Millis};
+use orders::prices::{better_price, book_best, is_better};
+use orders::select::{Filter, count, find};
 use sharing::rule::SharingRule;
 
 // Places for the starter's order and the competing ones.

@@ -9,12 +9,12 @@ use crate::answer::Entered;
 use crate::pass::PreOpeningPass;
 use crate::series::Series;
 use crate::series::orders::new_order;
-use orders::departures::{Departure, write_departures};
-use orders::select::Filter;
 use market::order::{Account, OrderKind, Role, Side};
 use market::refusal::Refusal;
 use market::row::Row;
 use market::units::{Contracts, Millis};
+use orders::departures::{Departure, write_departures};
+use orders::select::Filter;
 use sharing::rule::SharingRule;
 
 impl<R: SharingRule> Series<R> {

@@ -9,11 +9,11 @@ ghost use Rattle.series.specs.State.{state};
 use crate::pass::{PreOpeningPass, TradingPass};
 use crate::series::Series;
 use crate::series::conditions::{DAY_END, LAST_BEGIN, are_few, is_bad_member};
-use orders::select::{Filter, find};
 use market::order::{Account, Order, OrderKind, Side};
 use market::refusal::Refusal;
 use market::row::Row;
 use market::units::{Cents, Contracts, Millis};
+use orders::select::{Filter, find};
 use sharing::rule::SharingRule;
 
 const MARKETS: u8 = 8;

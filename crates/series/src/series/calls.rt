@@ -9,13 +9,13 @@ ghost use Rattle.series.specs.State.{state};
 use crate::away::AwayQuotes;
 use crate::pass::PreOpeningPass;
 use crate::series::Series;
-use orders::select::Filter;
-use orders::table::Table;
 use discovery::opening_price::top;
 use market::close::Close;
 use market::quote::Quote;
 use market::refusal::Refusal;
 use market::units::{Cents, Contracts, Millis};
+use orders::select::Filter;
+use orders::table::Table;
 use sharing::rule::SharingRule;
 
 impl<R: SharingRule> Series<R> {

@@ -5,10 +5,10 @@ ghost use Rattle.rules.specs.Series.{early_or_late, exposure_due, auction_due, s
 ghost use Rattle.series.specs.State.{state};
 
 use crate::series::Series;
-use orders::select::{Filter, count};
 use market::auction::Auction;
 use market::row::Row;
 use market::units::Millis;
+use orders::select::{Filter, count};
 use sharing::rule::SharingRule;
 
 // The last time of a day, and the last at which an exposure or an auction may begin.

@@ -1,6 +1,6 @@
 // The entry of an order while the series trades.
 ghost use Rattle.std.specs.Prelude.{◌≡◌, ◌+◌, ◌<◌, ◌≤◌, true, ◌++◌, length, take, drop};
-ghost use Rattle.std.specs.List.{AllByRecursion as All};
+ghost use Rattle.std.specs.List.{AllByRecursion};
 ghost use Rattle.market.specs.Words.{limit_at, or_else};
 ghost use Rattle.rules.specs.Calls.{resting, remainder};
 ghost use Rattle.rules.specs.Calls as calls;
@@ -19,15 +19,15 @@ use crate::remainder::Remainder;
 use crate::series::Series;
 use crate::series::orders::new_order;
 use crate::series::taking::take_in_bounds;
-use orders::prices::{bound, reaches};
-use orders::select::Filter;
-use orders::table::Table;
 use market::order::{Account, Order, OrderKind, Role, Side};
 use market::refusal::Refusal;
 use market::row::{Row, RowKind};
 use market::units::{Cents, Contracts, Millis};
 use matching::allocation::Taking;
 use matching::take::Taker;
+use orders::prices::{bound, reaches};
+use orders::select::Filter;
+use orders::table::Table;
 use sharing::rule::SharingRule;
 
 // How long a remainder is exposed.
@@ -82,7 +82,7 @@ fn remainder_of(order: Order, left: Contracts, reached: bool, best: Cents, end: 
 fn place_remainder(table: &mut Table, remainder: Remainder, rows: &mut [Row], count: usize) -> usize
     requires room { count < length rows.old }
     requires numbers { table.old.next ≤ 65535 }
-    requires admissible { All (λ o. admissible o (orders table.old) table.old.next ≡ true) (standing_orders remainder) }
+    requires admissible { AllByRecursion (λ o. admissible o (orders table.old) table.old.next ≡ true) (standing_orders remainder) }
     ensures records { orders table.new ≡ orders table.old ++ standing_orders remainder }
     ensures numbers { table.new.next ≡ table.old.next + 1 }
     ensures counted { result ≡ count + length (returning_rows remainder) }

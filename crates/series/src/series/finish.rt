@@ -13,9 +13,6 @@ ghost use Rattle.series.specs.Tickets.{shown};
 use crate::series::Series;
 use crate::series::taking::take_in_bounds;
 use crate::ticket::Ticket;
-use orders::departures::{Departure, write_departures};
-use orders::select::Filter;
-use orders::table::Table;
 use market::auction::Auction;
 use market::order::Order;
 use market::refusal::Refusal;
@@ -23,6 +20,9 @@ use market::row::Row;
 use market::units::{Contracts, Millis};
 use matching::allocation::Taking;
 use matching::take::Taker;
+use orders::departures::{Departure, write_departures};
+use orders::select::Filter;
+use orders::table::Table;
 use sharing::rule::SharingRule;
 
 // Writes the W rows of the orders outside the book, for which there is room, and answers how many.

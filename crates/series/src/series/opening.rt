@@ -9,12 +9,12 @@ ghost use Rattle.series.specs.State.{state};
 use crate::answer::Opened;
 use crate::pass::{PreOpeningPass, TradingPass};
 use crate::series::Series;
-use orders::table::Table;
 use discovery::opening_price::top;
 use market::refusal::Refusal;
 use market::row::Row;
 use market::units::{Cents, Millis};
 use matching::opening::open_at;
+use orders::table::Table;
 use sharing::rule::SharingRule;
 
 // Matches the orders at the opening price, if there is one, and answers how many rows are written.

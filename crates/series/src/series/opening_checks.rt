@@ -11,11 +11,11 @@ ghost use Rattle.series.specs.State.{state};
 use crate::pass::PreOpeningPass;
 use crate::series::Series;
 use crate::series::conditions::{DAY_END, are_few};
-use orders::prices::is_out_of_range;
 use market::order::{Order, OrderKind};
 use market::refusal::Refusal;
 use market::row::Row;
 use market::units::{Cents, Millis};
+use orders::prices::is_out_of_range;
 use sharing::rule::SharingRule;
 
 fn is_on_opening(kind: OrderKind) -> bool

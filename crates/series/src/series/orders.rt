@@ -7,12 +7,12 @@ ghost use Rattle.rules.specs.Runs.{written};
 ghost use Rattle.orders.specs.Changes.{admissible};
 ghost use Rattle.orders.specs.Orders.{orders};
 
-use orders::departures::Departure;
-use orders::select::Filter;
-use orders::table::Table;
 use market::order::{Account, Order, OrderKind, Role, Side};
 use market::row::Row;
 use market::units::{Cents, Contracts};
+use orders::departures::Departure;
+use orders::select::Filter;
+use orders::table::Table;
 
 // An order of which nothing has traded.
 pub(super) fn new_order(

@@ -4,11 +4,11 @@ ghost use Rattle.orders.specs.Filters.{passes};
 ghost use Rattle.orders.specs.Orders.{orders};
 ghost use Rattle.matching.specs.Taking.{Took};
 
-use orders::select::Filter;
-use orders::table::Table;
 use market::row::Row;
 use market::units::Contracts;
 use matching::take::{Taken, Taker, take};
+use orders::select::Filter;
+use orders::table::Table;
 use sharing::rule::SharingRule;
 
 // Takes what is in bounds, which is never refused.

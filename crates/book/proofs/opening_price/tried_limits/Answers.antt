@@ -1,6 +1,6 @@
 use Rattle.std.proofs.Common.{ℕ, ◌-◌, ◌≤◌, List, sym, ◌∙◌, subst, arith}
 use borrow.Rule.Slice.PartMut.{mid_of}
-use Rattle.std.specs.List.{AllByRecursion as All}
+use Rattle.std.specs.List.{AllByRecursion}
 use Rattle.std.proofs.ByRecursion.{All-get_or}
 use Rattle.std.proofs.lemmas.List.{take_all}
 use Rattle.book.specs.declared.ladder.Step.{Step}
@@ -20,7 +20,7 @@ tried_around-best-requires c =
     record {
       ready = c.requires.ready;
       sound = c.loop-step.invariant.sound;
-      span = All-get_or (λ s. s.price ≤ 99999) (mid_of l.first (161 - l.first) l.steps) c.loop-step.step-index no_step c.loop-step-test.true (subst (All (λ (s : Step). s.price ≤ 99999)) (sym e) c.requires.span);
+      span = All-get_or (λ s. s.price ≤ 99999) (mid_of l.first (161 - l.first) l.steps) c.loop-step.step-index no_step c.loop-step-test.true (subst (AllByRecursion (λ (s : Step). s.price ≤ 99999)) (sym e) c.requires.span);
     }
 
 pub loop-step-preserved : goal.loop-step-preserved

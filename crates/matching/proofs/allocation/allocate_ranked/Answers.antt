@@ -1,5 +1,5 @@
 use Rattle.std.proofs.Common.{◌≡◌, ℕ, ◌<◌, ◌≤◌, eqb, List, map, length, filter, sym, ap, ◌∙◌, subst, arith}
-use Rattle.std.specs.List.{AllByRecursion as All}
+use Rattle.std.specs.List.{AllByRecursion}
 use Rattle.std.proofs.ByRecursion.{All-weaker, all_kept_by}
 use Rattle.std.proofs.lemmas.List.{length-map}
 use Rattle.market.specs.Words.{standing}
@@ -18,7 +18,7 @@ use Rattle.matching.proofs.allocation.allocate_ranked.Goals as goal
 pub claim-requires : goal.claim-requires
 claim-requires g c =
     let os = c.args.orders.now in
-    let ranks = subst (All (TrueRank os)) (sym c.requires.ranking) (ranks_true (passes c.args.filter) os) in
+    let ranks = subst (AllByRecursion (TrueRank os)) (sym c.requires.ranking) (ranks_true (passes c.args.filter) os) in
     record { places = All-weaker (TrueRank os) (λ r. r.place < length os) (λ r t. t.inside) c.args.ranked.now ranks; even = c.requires.claims_fit }
 
 pub share_levels-requires : goal.share_levels-requires
@@ -30,14 +30,14 @@ share_levels-requires g c =
     let stand : orders_at os rs ≡ by_priority k = ap (orders_at os) c.requires.ranking ∙ ranked_stand p os in
     let number : Order → ℕ = λ o. o.number in
     record {
-      ranks = subst (All (TrueRank os)) (sym c.requires.ranking) (ranks_true p os);
+      ranks = subst (AllByRecursion (TrueRank os)) (sym c.requires.ranking) (ranks_true p os);
       sorted = subst Sorted (sym stand) (sorted_by_priority k);
       rising = λ r. subst (λ ys. Rising number 0 (level r ys)) (sym stand) (subst (Rising number 0) (sym (level_sorted r k)) (rising_kept number (λ o. eqb (priority o) r) 0 k (rising_kept number p 0 os c.requires.rising)));
       claimed = c.claim.ensures;
       claims_fit = omega (arith, c.claim.auto.claims, c.requires.claims_fit);
       shares_fit = sym c.requires.shares_fit;
       few = omega (arith, c.requires.few, length-map rs (at os), ap length stand, length_by_priority k);
-      small = subst (All (λ o. standing o ≤ 9999)) (sym stand) (all_by_priority (λ o. standing o ≤ 9999) k (all_kept_by p (λ o. standing o ≤ 9999) os c.requires.small));
+      small = subst (AllByRecursion (λ o. standing o ≤ 9999)) (sym stand) (all_by_priority (λ o. standing o ≤ 9999) k (all_kept_by p (λ o. standing o ≤ 9999) os c.requires.small));
       amounts = c.requires.amounts;
       guarantees = c.requires.guarantees;
     }

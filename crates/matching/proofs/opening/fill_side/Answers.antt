@@ -1,5 +1,5 @@
 use Rattle.std.proofs.Common.{◌≡◌, ℕ, ◌-◌, ◌<◌, ◌≤◌, Bool, List, map, length, take, drop, None, filter, sym, ap, ◌∙◌, subst, arith, rules}
-use Rattle.std.specs.List.{AllByRecursion as All}
+use Rattle.std.specs.List.{AllByRecursion}
 use Rattle.std.proofs.lemmas.List.{length-drop, length-take}
 use Rattle.market.specs.declared.order.Order.{Order}
 use Rattle.rules.specs.Allocation.{by_priority, fill}
@@ -40,7 +40,7 @@ list_fills-requires g c =
     let rk = c.allocate-start.new.ranked in
     let ranks : take (n - start) (drop start rk) ≡ by_rank (ranked_from p 0 os) = rest_is rk start n (omega (arith, c.requires.ranked_fit, c.allocate-start.auto.ranked)) ∙ c.allocate-start.ensures.ranked in
     record {
-      places = subst (All (λ (r : Ranked). r.place < n)) (sym ranks) (places_inside p os n (omega arith));
+      places = subst (AllByRecursion (λ (r : Ranked). r.place < n)) (sym ranks) (places_inside p os n (omega arith));
       even = search rules;
       room = search rules;
     }
@@ -54,7 +54,7 @@ scatter-requires g c =
     let rk = c.allocate-start.new.ranked in
     let ranks : take (n - start) (drop start rk) ≡ by_rank (ranked_from p 0 os) = rest_is rk start n (omega (arith, c.requires.ranked_fit, c.allocate-start.auto.ranked)) ∙ c.allocate-start.ensures.ranked in
     record {
-      places = subst (All (λ (r : Ranked). r.place < length c.args.fills.now)) (sym ranks) (places_inside p os (length c.args.fills.now) (omega (arith, c.requires.fills_fit)));
+      places = subst (AllByRecursion (λ (r : Ranked). r.place < length c.args.fills.now)) (sym ranks) (places_inside p os (length c.args.fills.now) (omega (arith, c.requires.fills_fit)));
       even = search rules;
     }
 

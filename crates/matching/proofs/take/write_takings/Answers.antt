@@ -1,5 +1,5 @@
 use Rattle.std.proofs.Common.{◌≡◌, ℕ, ◌-◌, ◌<◌, ◌≤◌, min, Bool, List, ◌++◌, map, length, take, drop, sum_by, filter, sym, ap, ◌∙◌, subst, arith, rules}
-use Rattle.std.specs.List.{AllByRecursion as All}
+use Rattle.std.specs.List.{AllByRecursion}
 use Rattle.std.proofs.ByRecursion.{all_kept_by}
 use Rattle.std.proofs.lemmas.List.{length-drop, length-map, length-take, take_all}
 use Rattle.market.specs.Words.{standing}
@@ -40,7 +40,7 @@ write_trades-count-requires g c =
     let rk = c.allocate-start.new.ranked in
     let ranks : take (n - start) (drop start rk) ≡ by_rank (ranked_from p 0 os) = rest_is rk start n (omega (arith, c.requires.ranked_fit, c.allocate-start.auto.ranked)) ∙ c.allocate-start.ensures.ranked in
     record {
-      places = subst (All (λ (r : Ranked). r.place < n)) (sym ranks) (places_inside p os n (omega arith));
+      places = subst (AllByRecursion (λ (r : Ranked). r.place < n)) (sym ranks) (places_inside p os n (omega arith));
       even = search rules;
       room = omega (arith, ap length ranks, ranks_few p os, c.requires.rows_fit);
     }
@@ -54,7 +54,7 @@ scatter-requires g c =
     let rk = c.allocate-start.new.ranked in
     let ranks : take (n - start) (drop start rk) ≡ by_rank (ranked_from p 0 os) = rest_is rk start n (omega (arith, c.requires.ranked_fit, c.allocate-start.auto.ranked)) ∙ c.allocate-start.ensures.ranked in
     record {
-      places = subst (All (λ (r : Ranked). r.place < length c.args.fills.now)) (sym ranks) (places_inside p os (length c.args.fills.now) (omega (arith, c.requires.fills_fit)));
+      places = subst (AllByRecursion (λ (r : Ranked). r.place < length c.args.fills.now)) (sym ranks) (places_inside p os (length c.args.fills.now) (omega (arith, c.requires.fills_fit)));
       even = search rules;
     }
 

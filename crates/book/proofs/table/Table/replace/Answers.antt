@@ -1,5 +1,5 @@
 use Rattle.std.proofs.Common.{◌≡◌, ◌-◌, true, List, ◌++◌, length, take, drop, sym, ap, ◌∙◌, subst, arith, length-append, length-drop, rules}
-use Rattle.std.specs.List.{AllByRecursion as All}
+use Rattle.std.specs.List.{AllByRecursion}
 use Rattle.std.proofs.lemmas.List.{take_at}
 use Rattle.std.proofs.ByRecursion.{All-append, All-drop}
 use Rattle.market.specs.declared.order.Order.{Order}
@@ -24,7 +24,7 @@ invariant_of-self c =
     let now : Live (take n (ys ++ rest)) c.args.next = subst (λ (xs : List Order). Live xs c.args.next) (sym f) c.requires.live in record {
       long = omega (arith, length-append ys rest, length-drop (n - 0) t.records, ap length e);
       few = few;
-      sound = all_passes balanced (ys ++ rest) (All-append (λ (x : Order). balanced x ≡ true) ys rest (subst (All (λ (x : Order). balanced x ≡ true)) (sym e) c.requires.live.sound) (All-drop (λ (x : Order). balanced x ≡ true) (n - 0) t.records (pass_all balanced t.records t.sound)));
+      sound = all_passes balanced (ys ++ rest) (All-append (λ (x : Order). balanced x ≡ true) ys rest (subst (AllByRecursion (λ (x : Order). balanced x ≡ true)) (sym e) c.requires.live.sound) (All-drop (λ (x : Order). balanced x ≡ true) (n - 0) t.records (pass_all balanced t.records t.sound)));
       rising = now.rising;
       books = now.books;
       rivals = now.rivals;

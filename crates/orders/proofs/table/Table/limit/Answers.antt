@@ -1,6 +1,6 @@
 use Rattle.std.proofs.Common.{◌≡◌, ◌≤◌, true, leb, List, map, length, take, sym, refl, ap, ◌∙◌, subst, arith}
 use lib.ListN.{length-map}
-use Rattle.std.specs.List.{AllByRecursion as All}
+use Rattle.std.specs.List.{AllByRecursion}
 use Rattle.std.proofs.ByRecursion.{All-map, All-weaker}
 use Rattle.std.proofs.lemmas.List.{take-map}
 use Rattle.std.proofs.lemmas.Bool.{cond-true, le-leb}
@@ -20,7 +20,7 @@ invariant_of-self c =
     let e : rs ≡ map (limited_at p) t.records = c.limit_orders.ensures in
     let front : take t.count rs ≡ map (limited_at p) (orders t) = ap (take t.count) e ∙ take-map (limited_at p) t.count t.records in
     let live : Live (take t.count rs) t.next = subst (λ (xs : List Order). Live xs t.next) (sym front) (live_limited p le (orders t) t.next (table_live t)) in
-    let sound : All (λ (o : Order). sound_record o ≡ true) rs = subst (All (λ (o : Order). sound_record o ≡ true)) (sym e)
+    let sound : AllByRecursion (λ (o : Order). sound_record o ≡ true) rs = subst (AllByRecursion (λ (o : Order). sound_record o ≡ true)) (sym e)
     (All-map (λ (o : Order). sound_record o ≡ true) (limited_at p) t.records (All-weaker (λ (o : Order). sound_record o ≡ true) (λ (o : Order). sound_record (limited_at p o) ≡ true) (sound_limited p le) t.records (pass_all sound_record t.records t.sound))) in
     record {
       long = ap length e ∙ length-map t.records (limited_at p) ∙ t.long;

@@ -1,5 +1,5 @@
 use Rattle.std.proofs.Common.{◌≡◌, ℕ, ◌≤◌, true, List, Option, sym, subst}
-use Rattle.std.specs.List.{AllByRecursion as All}
+use Rattle.std.specs.List.{AllByRecursion}
 use Rattle.std.proofs.ByRecursion.{All-weaker}
 use Rattle.std.proofs.lemmas.Bool.{or_parts, not-true}
 use Rattle.market.specs.Words.{or_else}
@@ -12,7 +12,7 @@ use Rattle.orders.proofs.Records.{pass_all}
 use Rattle.series.specs.Quotes.{quote_in_span, quotes_in_span}
 use Rattle.series.proofs.away.AwayQuotes.best.Goals as goal
 
-spanned : (qs : List Quote) → quotes_in_span qs ≡ true → All (λ q. Spanned q.bid × Spanned q.offer) qs
+spanned : (qs : List Quote) → quotes_in_span qs ≡ true → AllByRecursion (λ q. Spanned q.bid × Spanned q.offer) qs
 spanned qs h = All-weaker (λ (q : Quote). quote_in_span q ≡ true) (λ (q : Quote). Spanned q.bid × Spanned q.offer) one qs (pass_all quote_in_span qs h)
   where
     one : (q : Quote) → quote_in_span q ≡ true → Spanned q.bid × Spanned q.offer

@@ -1,5 +1,5 @@
 use Rattle.std.proofs.Common.{◌≡◌, ℕ, ◌+◌, ◌≤◌, true, false, not, leb, List, [], ◌∷◌, ◌++◌, length, is_some, Some, None, count_by, Option, sym, refl, ap, ◌∙◌, arith}
-use Rattle.std.specs.List.{AllByRecursion as All}
+use Rattle.std.specs.List.{AllByRecursion}
 use Rattle.std.proofs.lemmas.Bool.{and_parts, not-false, or_parts, or_left, ltb-false, lt-ltb, eq-eqb}
 use Rattle.market.specs.Refusals.{first_hit}
 use Rattle.market.specs.Spans.{price_in_span, size_in_span}
@@ -37,7 +37,7 @@ abbrev renewed : Auction → ℕ → Side → ℕ → Order
 renewed a n side p = new_order n a.member side MarketMaker (limit_at p) a.size.count Starter
 
 module _ {R : Type 0} (s : Series R) (pass : ℕ) (k : Ticket) (t : Millis) (p : Cents) (rows : List Row) (clear : None ≡ first_hit (checks (state s) (better pass k t p rows))) (a : Auction) (running : s.auction ≡ Some a) where
-  abbrev passed : All (λ c. c.1 ≡ false) (checks (state s) (better pass k t p rows))
+  abbrev passed : AllByRecursion (λ c. c.1 ≡ false) (checks (state s) (better pass k t p rows))
   passed = all_clear (checks (state s) (better pass k t p rows)) clear
 
   abbrev stay : List Order

@@ -1,5 +1,5 @@
 use Rattle.std.proofs.Common.{◌≡◌, ℕ, ◌+◌, ◌<◌, ◌≤◌, true, false, List, [], ◌∷◌, ◌++◌, length, is_some, None, count_by, Option, ap, ◌∙◌, arith}
-use Rattle.std.specs.List.{AllByRecursion as All}
+use Rattle.std.specs.List.{AllByRecursion}
 use Rattle.std.proofs.lemmas.Bool.{not-false, ltb-false, lt-ltb}
 use Rattle.market.specs.Refusals.{first_hit}
 use Rattle.market.specs.Spans.{price_in_span, size_in_span}
@@ -27,7 +27,7 @@ use Rattle.series.proofs.Replacing.{improving_room, held_improved}
 use Rattle.series.proofs.series.Series.improve.Goals as goal
 
 module _ {R : Type 0} (s : Series R) (pass : ℕ) (t : Millis) (m : ℕ) (p : Cents) (size : Contracts) (r : Option ℕ) (rows : List Row) (clear : None ≡ first_hit (checks (state s) (improve pass t m p size r rows))) where
-  abbrev passed : All (λ c. c.1 ≡ false) (checks (state s) (improve pass t m p size r rows))
+  abbrev passed : AllByRecursion (λ c. c.1 ≡ false) (checks (state s) (improve pass t m p size r rows))
   passed = all_clear (checks (state s) (improve pass t m p size r rows)) clear
 
   abbrev stay : List Order

@@ -1,6 +1,6 @@
 use Rattle.std.proofs.Common.{◌≡◌, ℕ, ◌+◌, ◌<◌, ◌≤◌, Bool, false, [], ◌∷◌, None, count_by, refl, ap, arith}
 use Rattle.std.proofs.lemmas.Bool.{not-false, ltb-false, leb-false, lt-ltb}
-use Rattle.std.specs.List.{AllByRecursion as All}
+use Rattle.std.specs.List.{AllByRecursion}
 use Rattle.market.specs.Refusals.{first_hit}
 use Rattle.market.specs.Spans.{size_in_span}
 use Rattle.market.specs.declared.order.Account.{Account}
@@ -26,7 +26,7 @@ use Rattle.series.proofs.series.Series.place.Goals as goal
 
 module _ {R : Type 0} (s : Series R) (pass : ℕ) (t : Millis) (m : ℕ) (side : Side) (a : Account) (k : OrderKind) (size : Contracts)
     (clear : None ≡ first_hit (checks (state s) (place pass t m side a k size))) where
-  abbrev passed : All (λ c. c.1 ≡ false) (checks (state s) (place pass t m side a k size))
+  abbrev passed : AllByRecursion (λ c. c.1 ≡ false) (checks (state s) (place pass t m side a k size))
   passed = all_clear (checks (state s) (place pass t m side a k size)) clear
 
   in_day : t.count ≤ 86400000

@@ -1,5 +1,5 @@
 use Rattle.std.proofs.Common.{◌≡◌, ℕ, ◌+◌, ◌≤◌, true, false, not, eqb, [], ◌∷◌, ◌++◌, is_some, Some, None, Option, sym, refl, ap, ◌∙◌, arith}
-use Rattle.std.specs.List.{AllByRecursion as All}
+use Rattle.std.specs.List.{AllByRecursion}
 use Rattle.std.proofs.lemmas.Bool.{not-false, or_parts, or_left, ltb-false, lt-ltb, eq-eqb}
 use Rattle.market.specs.Refusals.{first_hit}
 use Rattle.market.specs.Spans.{price_in_span, size_in_span}
@@ -24,7 +24,7 @@ use Rattle.series.proofs.Starting.{none_of, all_in_book, span_from, held_started
 use Rattle.series.proofs.series.Series.start.Goals as goal
 
 module _ {R : Type 0} (s : Series R) (pass : ℕ) (t : Millis) (m : ℕ) (side : Side) (p : Cents) (size : Contracts) (clear : None ≡ first_hit (checks (state s) (start pass t m side p size))) where
-  abbrev passed : All (λ c. c.1 ≡ false) (checks (state s) (start pass t m side p size))
+  abbrev passed : AllByRecursion (λ c. c.1 ≡ false) (checks (state s) (start pass t m side p size))
   passed = all_clear (checks (state s) (start pass t m side p size)) clear
 
   in_time : t.count ≤ 86390000

@@ -1,5 +1,5 @@
 use Rattle.std.proofs.Common.{◌≡◌, ℕ, ◌+◌, ◌<◌, true, List, [], ◌∷◌, ◌++◌, length, take, drop, set, sym, ap, ◌∙◌, subst, arith}
-use Rattle.std.specs.List.{AllByRecursion as All}
+use Rattle.std.specs.List.{AllByRecursion}
 use Rattle.std.proofs.lemmas.List.{append-nil, take-append-drop, take-set, drop-set}
 use Rattle.market.specs.declared.order.Order.{Order}
 use Rattle.market.specs.declared.row.Row.{Row}
@@ -45,7 +45,7 @@ returns-in-Stands c =
     let is = c.in-Stands.is in
     let s = c.append in
     let o = c.in-Stands.order in
-    let fits = (subst (λ (x : Remainder). All (λ (o : Order). admissible o (orders t) t.next ≡ true) (standing_orders x)) is c.requires.admissible).0 in
+    let fits = (subst (λ (x : Remainder). AllByRecursion (λ (o : Order). admissible o (orders t) t.next ≡ true) (standing_orders x)) is c.requires.admissible).0 in
     record {
       records = appended_orders t s.new.self o s.result s.ensures fits ∙ ap (λ (x : Remainder). orders t ++ standing_orders x) (sym is);
       numbers = appended_next t s.new.self o s.result s.ensures fits;
