@@ -1,7 +1,7 @@
 // The theoretical opening price.
 ghost use Rattle.std.specs.Prelude.{◌≡◌, ◌+◌, ◌-◌, ◌<◌, ◌≤◌, true, [], ◌∷◌, fold};
 ghost use Rattle.std.specs.List.{AllByRecursion};
-ghost use Rattle.orders.specs.Orders.{orders};
+ghost use Rattle.order_table.specs.Orders.{orders};
 ghost use Rattle.rules.specs.Volume.{of_order};
 ghost use Rattle.rules.specs.Volume as model;
 ghost use Rattle.rules.specs.Opening as openings;
@@ -14,8 +14,8 @@ use crate::ladder::{Cursor, Ladder, build_ladder};
 use market::close::Close;
 use market::order::Side;
 use market::units::{Cents, Contracts};
-use orders::select::Filter;
-use orders::table::Table;
+use order_table::select::Filter;
+use order_table::table::Table;
 
 // Beyond every price.
 const NO_PRICE: u32 = 200_000;

@@ -9,7 +9,7 @@ use Rattle.market.specs.declared.order.Order.{Order}
 use Rattle.market.specs.declared.units.Contracts.{Contracts}
 use Rattle.rules.specs.Allocation.{priority}
 use Rattle.sharing.specs.Asked.{counts}
-use Rattle.orders.specs.Blank.{no_order}
+use Rattle.order_table.specs.Blank.{no_order}
 use Rattle.matching.specs.Places.{at, orders_at, TrueRank, Sorted}
 use Rattle.matching.specs.Ranking.{priority_at_place}
 use Rattle.matching.specs.declared.priority.Ranked.{Ranked}

@@ -7,7 +7,7 @@ use Rattle.market.specs.declared.order.Order.{Order}
 use Rattle.market.specs.declared.units.Contracts.{Contracts}
 use Rattle.rules.specs.Allocation.{place_of, next_place}
 use Rattle.sharing.specs.Asked.{counts}
-use Rattle.orders.specs.Blank.{no_order}
+use Rattle.order_table.specs.Blank.{no_order}
 use Rattle.matching.specs.Places.{at, orders_at}
 use Rattle.matching.specs.declared.priority.Ranked.{Ranked}
 use Rattle.matching.proofs.Sorting.{no_rank}

@@ -17,7 +17,7 @@ use Rattle.rules.specs.Allocation.{priority, level, volume_ahead, place_of, next
 use Rattle.rules.specs.Law.{Rising}
 use Rattle.rules.proofs.Matching.{kept_all, kept_none, rising_above}
 use Rattle.sharing.specs.Sharing.{Sharing}
-use Rattle.orders.specs.Blank.{no_order}
+use Rattle.order_table.specs.Blank.{no_order}
 use Rattle.matching.specs.Places.{Sorted}
 
 pub sorted_at : (ys : List Order) (i j : ℕ) → Sorted ys → i ≤ j → j < length ys → priority (get_or ys i no_order) ≤ priority (get_or ys j no_order)

@@ -11,17 +11,17 @@ use Rattle.market.specs.declared.order.Side.{Side}
 use Rattle.market.specs.declared.order.Side.TheVariants.{Buy, Sell}
 use Rattle.rules.specs.Allocation.{after_trade, by_priority, live}
 use Rattle.rules.specs.Opening.{filled, opened_orders, opening_fill, opening_trade}
-use Rattle.orders.specs.Changes.{limited_at}
+use Rattle.order_table.specs.Changes.{limited_at}
 use Rattle.rules.specs.Volume.{matched_volume, of_order}
 use Rattle.rules.proofs.Matching.{all_from_kept}
 use Rattle.sharing.specs.Sharing.{Sharing}
 use Rattle.matching.specs.Matching.{wills, both_filled}
-use Rattle.orders.specs.Blank.{no_order}
+use Rattle.order_table.specs.Blank.{no_order}
 use Rattle.matching.specs.Scattering.{filled_places}
-use Rattle.orders.specs.Records.{Live}
-use Rattle.orders.specs.Changes.{settled}
+use Rattle.order_table.specs.Records.{Live}
+use Rattle.order_table.specs.Changes.{settled}
 use Rattle.matching.proofs.Scattering.{fill_passed, fill_other, places_fit}
-use Rattle.orders.proofs.Settling.{settled_is}
+use Rattle.order_table.proofs.Settling.{settled_is}
 use Rattle.matching.proofs.Stable.{length_by_priority}
 use Rattle.matching.proofs.Takings.{lot_passing}
 

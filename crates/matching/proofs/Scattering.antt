@@ -11,13 +11,13 @@ use Rattle.rules.specs.Allocation.{priority, by_priority, after_trade, live}
 use Rattle.rules.proofs.Matching.{all_from_kept}
 use Rattle.sharing.specs.Asked.{counts}
 use Rattle.sharing.proofs.Counts.{counts_set}
-use Rattle.orders.specs.Blank.{no_order}
+use Rattle.order_table.specs.Blank.{no_order}
 use Rattle.matching.specs.Places.{at, orders_at, TrueRank}
 use Rattle.matching.specs.Ranking.{insert_ranked, by_rank, ranked_from}
-use Rattle.orders.specs.Changes.{settled}
+use Rattle.order_table.specs.Changes.{settled}
 use Rattle.matching.specs.Scattering.{among, scattered, filled_places}
 use Rattle.matching.specs.declared.priority.Ranked.{Ranked}
-use Rattle.orders.proofs.Settling.{settled_is}
+use Rattle.order_table.proofs.Settling.{settled_is}
 use Rattle.matching.proofs.Sorting.{no_rank}
 use Rattle.matching.proofs.Stable.{ranked_stand, ranks_true}
 use Rattle.matching.proofs.Trades.{no_contracts}

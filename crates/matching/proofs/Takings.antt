@@ -14,10 +14,10 @@ use Rattle.rules.proofs.Sound.{Lot}
 use Rattle.sharing.specs.Asked.{counts}
 use Rattle.matching.specs.Places.{at, orders_at}
 use Rattle.matching.specs.Ranking.{by_rank, ranked_from}
-use Rattle.orders.specs.Records.{Live}
+use Rattle.order_table.specs.Records.{Live}
 use Rattle.matching.specs.Rows.{trade_rows}
 use Rattle.matching.specs.declared.priority.Ranked.{Ranked}
-use Rattle.orders.proofs.Records.{live_small, rising_from}
+use Rattle.order_table.proofs.Records.{live_small, rising_from}
 use Rattle.matching.proofs.Stable.{length_by_priority, ranked_stand}
 use Rattle.matching.proofs.Trades.{rows_ranked}
 

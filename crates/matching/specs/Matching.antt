@@ -9,8 +9,8 @@ use Rattle.market.specs.declared.row.Row.{Row}
 use Rattle.rules.specs.Opening.{opening_fill, opening_rows, opened_orders}
 use Rattle.rules.specs.Volume.{willing, of_order}
 use Rattle.sharing.specs.Sharing.{Sharing}
-use Rattle.orders.specs.Orders.{orders}
-use Rattle.orders.specs.declared.table.Table.{Table}
+use Rattle.order_table.specs.Orders.{orders}
+use Rattle.order_table.specs.declared.table.Table.{Table}
 use Rattle.matching.specs.Scattering.{filled_places}
 
 -- each order's number with its contracts

@@ -6,8 +6,8 @@ use Rattle.market.specs.declared.refusal.Refusal.{Refusal}
 use Rattle.market.specs.declared.row.Row.{Row}
 use Rattle.rules.specs.Allocation.{fill, taker_rows, after_trade, live}
 use Rattle.sharing.specs.Sharing.{Sharing}
-use Rattle.orders.specs.Orders.{orders}
-use Rattle.orders.specs.declared.table.Table.{Table}
+use Rattle.order_table.specs.Orders.{orders}
+use Rattle.order_table.specs.declared.table.Table.{Table}
 use Rattle.matching.specs.declared.allocation.Taking.{Taking}
 use Rattle.matching.specs.declared.take.Taken.{Taken}
 use Rattle.matching.specs.declared.take.Taker.{Taker}

@@ -6,14 +6,14 @@ ghost use Rattle.rules.specs.Allocation.{by_priority, fill, level, mark_among};
 ghost use Rattle.rules.specs.Law.{Rising};
 ghost use Rattle.sharing.specs.Asked.{counts};
 ghost use Rattle.matching.specs.Places.{orders_at, TrueRank, Sorted};
-ghost use Rattle.orders.specs.Filters.{passes};
+ghost use Rattle.order_table.specs.Filters.{passes};
 ghost use Rattle.matching.specs.Ranking.{by_rank, ranked_from, priority_at_place};
 
 use crate::priority::{Ranked, rank};
 use crate::room::contract_room;
 use market::order::Order;
 use market::units::Contracts;
-use orders::select::Filter;
+use order_table::select::Filter;
 use sharing::rule::SharingRule;
 
 // How much is taken, and which order has which guarantee.

@@ -5,8 +5,8 @@ ghost use Rattle.market.specs.Refusals.{refused_by, first_hit};
 ghost use Rattle.rules.specs.Opening.{filled, opening_fill, opening_rows};
 ghost use Rattle.rules.specs.Volume.{matched_volume, of_order};
 ghost use Rattle.sharing.specs.Asked.{counts};
-ghost use Rattle.orders.specs.Orders.{orders};
-ghost use Rattle.orders.specs.Records.{Live};
+ghost use Rattle.order_table.specs.Orders.{orders};
+ghost use Rattle.order_table.specs.Records.{Live};
 ghost use Rattle.matching.specs.Matching.{numbered_fills, wills, both_filled, opening_checks, Opens};
 ghost use Rattle.matching.specs.Pairing.{filled_pair};
 ghost use Rattle.matching.specs.Places.{orders_at};
@@ -22,8 +22,8 @@ use market::order::{Order, Side};
 use market::refusal::Refusal;
 use market::row::Row;
 use market::units::{Cents, Contracts};
-use orders::select::Filter;
-use orders::table::Table;
+use order_table::select::Filter;
+use order_table::table::Table;
 use sharing::rule::{MOST_CLAIMS, SharingRule};
 
 // A price and the contracts that trade at it.

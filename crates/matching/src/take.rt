@@ -2,9 +2,9 @@
 ghost use Rattle.std.specs.Prelude.{◌≡◌, ◌≤◌, ◌++◌, length, drop, count_by, filter as kept_by};
 ghost use Rattle.market.specs.Refusals.{refused_by, first_hit};
 ghost use Rattle.sharing.specs.Asked.{counts};
-ghost use Rattle.orders.specs.Filters.{passes};
-ghost use Rattle.orders.specs.Orders.{orders};
-ghost use Rattle.orders.specs.Records.{Live};
+ghost use Rattle.order_table.specs.Filters.{passes};
+ghost use Rattle.order_table.specs.Orders.{orders};
+ghost use Rattle.order_table.specs.Records.{Live};
 ghost use Rattle.matching.specs.Scattering.{filled_places};
 ghost use Rattle.matching.specs.Taking.{taker_fill, trades_of, taking_checks, Takes};
 
@@ -17,8 +17,8 @@ use market::order::{Order, Side};
 use market::refusal::Refusal;
 use market::row::Row;
 use market::units::Contracts;
-use orders::select::{Filter, count};
-use orders::table::Table;
+use order_table::select::{Filter, count};
+use order_table::table::Table;
 use sharing::rule::{LARGEST_AMOUNT, LARGEST_CLAIM, MOST_CLAIMS, SharingRule};
 
 // Who takes, how much, and who has which guarantee against it.

@@ -1,8 +1,8 @@
 // The table at its limits, and takers at levels of many orders.
 use crate::tables::{BLANK_ROW, add, cents, check_rows, contracts, limit, new_order, trade};
-use orders::departures::{Departure, write_departures};
-use orders::select::{Filter, count, find};
-use orders::table::Table;
+use order_table::departures::{Departure, write_departures};
+use order_table::select::{Filter, count, find};
+use order_table::table::Table;
 use market::order::{Order, Side};
 use market::refusal::Refusal;
 use market::row::{Row, RowKind};

@@ -1,7 +1,7 @@
 // Openings: the theoretical price, the rows and what is left.
 use crate::tables::{BLANK_ROW, MOO, add, cents, check_rows, close_at, limit, trade};
-use orders::select::Filter;
-use orders::table::Table;
+use order_table::select::Filter;
+use order_table::table::Table;
 use discovery::opening_price::{demand, supply, top};
 use market::order::Side;
 use market::refusal::Refusal;

@@ -1,5 +1,5 @@
 // Tables and rows to test with.
-use orders::table::Table;
+use order_table::table::Table;
 use market::close::Close;
 use market::order::{Account, Order, OrderKind, Role, Side};
 use market::row::{Row, RowKind};

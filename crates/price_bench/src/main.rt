@@ -1,7 +1,7 @@
 // Prints the opening prices of random books. With a number of rounds it also times the search for them.
 #![tactic(auto)]
 
-use orders::table::Table;
+use order_table::table::Table;
 use discovery::opening_price::top;
 use market::close::Close;
 use market::order::{Account, Order, OrderKind, Role, Side};

@@ -11,11 +11,11 @@ use Rattle.market.specs.declared.order.Role.{Role}
 use Rattle.market.specs.declared.order.Side.{Side}
 use Rattle.rules.specs.Calls.{new_order}
 use Rattle.rules.specs.Series.{State, early_or_late, off_grid}
-use Rattle.orders.specs.Changes.{role_room, admissible, Appended}
-use Rattle.orders.specs.Orders.{orders}
-use Rattle.orders.specs.Records.{sound_record}
-use Rattle.orders.specs.declared.table.Table.{Table}
-use Rattle.orders.proofs.Records.{sound_from}
+use Rattle.order_table.specs.Changes.{role_room, admissible, Appended}
+use Rattle.order_table.specs.Orders.{orders}
+use Rattle.order_table.specs.Records.{sound_record}
+use Rattle.order_table.specs.declared.table.Table.{Table}
+use Rattle.order_table.proofs.Records.{sound_from}
 
 -- ---- what the checks say in numbers
 

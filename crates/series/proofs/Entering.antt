@@ -27,13 +27,13 @@ use Rattle.rules.specs.Series.{State}
 use Rattle.rules.proofs.Matching.{count_kept}
 use Rattle.rules.proofs.Tally.{all_of, sum_map, sum_under}
 use Rattle.sharing.specs.Sharing.{Sharing}
-use Rattle.orders.specs.Changes.{admissible, role_room}
-use Rattle.orders.specs.Filters.{passes}
-use Rattle.orders.specs.Orders.{orders}
-use Rattle.orders.specs.Records.{booked, sound_record}
-use Rattle.orders.specs.declared.select.Filter.TheVariants.{Reachable}
-use Rattle.orders.specs.declared.table.Table.{Table}
-use Rattle.orders.proofs.Records.{sound_from}
+use Rattle.order_table.specs.Changes.{admissible, role_room}
+use Rattle.order_table.specs.Filters.{passes}
+use Rattle.order_table.specs.Orders.{orders}
+use Rattle.order_table.specs.Records.{booked, sound_record}
+use Rattle.order_table.specs.declared.select.Filter.TheVariants.{Reachable}
+use Rattle.order_table.specs.declared.table.Table.{Table}
+use Rattle.order_table.proofs.Records.{sound_from}
 use Rattle.matching.specs.Taking.{Took, left_of, trades_of}
 use Rattle.matching.specs.declared.take.Taken.{Taken}
 use Rattle.matching.specs.declared.take.Taker.{Taker}

@@ -22,11 +22,11 @@ use Rattle.rules.specs.Series.{State}
 use Rattle.rules.proofs.Matching.{count_kept, kept_kept, kept_same}
 use Rattle.rules.proofs.Tally.{all_of, all_both, sum_map, sum_two, sum_under}
 use Rattle.sharing.specs.Sharing.{Sharing}
-use Rattle.orders.specs.Filters.{passes}
-use Rattle.orders.specs.Orders.{orders}
-use Rattle.orders.specs.Records.{booked, auction_contra, Live}
-use Rattle.orders.specs.declared.select.Filter.TheVariants.{Contra, Outside, InBook}
-use Rattle.orders.specs.declared.table.Table.{Table}
+use Rattle.order_table.specs.Filters.{passes}
+use Rattle.order_table.specs.Orders.{orders}
+use Rattle.order_table.specs.Records.{booked, auction_contra, Live}
+use Rattle.order_table.specs.declared.select.Filter.TheVariants.{Contra, Outside, InBook}
+use Rattle.order_table.specs.declared.table.Table.{Table}
 use Rattle.matching.specs.Taking.{Took, trades_of}
 use Rattle.matching.specs.declared.take.Taken.{Taken}
 use Rattle.matching.specs.declared.take.Taker.{Taker}

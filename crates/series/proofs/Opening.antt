@@ -8,12 +8,12 @@ use Rattle.market.specs.declared.auction.Auction.{Auction}
 use Rattle.market.specs.declared.order.Order.{Order}
 use Rattle.rules.specs.Allocation.{after_trade}
 use Rattle.rules.specs.Opening.{top, opening_trade}
-use Rattle.orders.specs.Changes.{limited_at}
+use Rattle.order_table.specs.Changes.{limited_at}
 use Rattle.rules.proofs.Matching.{kept_all}
 use Rattle.rules.proofs.Plain.{grid_fine}
 use Rattle.rules.proofs.Tops.{top_some}
 use Rattle.sharing.specs.Sharing.{Sharing}
-use Rattle.orders.specs.Records.{booked, Live}
+use Rattle.order_table.specs.Records.{booked, Live}
 use Rattle.series.specs.Held.{held_well, opened_or_quiet}
 use Rattle.series.specs.Openings.{Priced, orders_opened}
 use Rattle.series.proofs.Holding.{held_parts, held_from}

@@ -2,9 +2,9 @@
 use Rattle.std.proofs.Common.{◌≡◌, ◌+◌, ◌≤◌, Bool, true, [], ◌∷◌, ◌++◌, ◌∙◌}
 use Rattle.std.proofs.lemmas.Bool.{cond-true, le-leb}
 use Rattle.market.specs.declared.order.Order.{Order}
-use Rattle.orders.specs.Changes.{Appended, Skipped, admissible}
-use Rattle.orders.specs.Orders.{orders}
-use Rattle.orders.specs.declared.table.Table.{Table}
+use Rattle.order_table.specs.Changes.{Appended, Skipped, admissible}
+use Rattle.order_table.specs.Orders.{orders}
+use Rattle.order_table.specs.declared.table.Table.{Table}
 
 module _ (before after : Table) where
   pub skipped_next : (used : Bool) → Skipped before after used → before.next ≤ 65535 → after.next ≡ before.next + 1

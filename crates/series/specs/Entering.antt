@@ -8,9 +8,9 @@ use Rattle.rules.specs.Allocation.{fill, taker_rows, after_trade, live}
 use Rattle.rules.specs.Calls.{remainder}
 use Rattle.rules.specs.Prices.{bound, reaches, within}
 use Rattle.sharing.specs.Sharing.{Sharing}
-use Rattle.orders.specs.Orders.{orders}
-use Rattle.orders.specs.Records.{booked}
-use Rattle.orders.specs.declared.table.Table.{Table}
+use Rattle.order_table.specs.Orders.{orders}
+use Rattle.order_table.specs.Records.{booked}
+use Rattle.order_table.specs.declared.table.Table.{Table}
 
 module _ (rule : Sharing) (os : List Order) (o : Order) (best : Option ℕ) (end : ℕ) where
   -- an order that it may trade with

@@ -7,8 +7,8 @@ use Rattle.market.specs.declared.row.Row.{Row}
 use Rattle.rules.specs.Allocation.{fill, taker_rows, after_trade, live}
 use Rattle.rules.specs.Calls.{against_customer, without, withdrawn_row}
 use Rattle.sharing.specs.Sharing.{Sharing}
-use Rattle.orders.specs.Orders.{orders}
-use Rattle.orders.specs.declared.table.Table.{Table}
+use Rattle.order_table.specs.Orders.{orders}
+use Rattle.order_table.specs.declared.table.Table.{Table}
 use Rattle.matching.specs.declared.take.Taker.{Taker}
 
 -- the customer takes its size, and the starter's order has a guarantee of two fifths of it

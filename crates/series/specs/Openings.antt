@@ -4,8 +4,8 @@ use Rattle.market.specs.declared.order.Order.{Order}
 use Rattle.market.specs.declared.row.Row.{Row}
 use Rattle.rules.specs.Opening.{opening_rows, opened_orders}
 use Rattle.sharing.specs.Sharing.{Sharing}
-use Rattle.orders.specs.Orders.{orders}
-use Rattle.orders.specs.declared.table.Table.{Table}
+use Rattle.order_table.specs.Orders.{orders}
+use Rattle.order_table.specs.declared.table.Table.{Table}
 
 -- an opening price, if there is one, is no higher than a price can be
 abbrev pub Priced : Option (ℕ × ℕ) → Type 0

@@ -1,5 +1,5 @@
 -- What a series holds, in the words of the rules.
-use Rattle.orders.specs.Orders.{orders}
+use Rattle.order_table.specs.Orders.{orders}
 use Rattle.rules.specs.Series.{State}
 use Rattle.series.specs.declared.series.Series.{Series}
 

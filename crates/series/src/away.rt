@@ -8,7 +8,7 @@ ghost use Rattle.series.specs.Quotes.{quote_in_span, quotes_in_span};
 use market::order::Side;
 use market::quote::Quote;
 use market::units::Cents;
-use orders::prices::away_best;
+use order_table::prices::away_best;
 
 const NO_QUOTE: Quote = Quote {
     bid: None,

@@ -1,13 +1,13 @@
 // One series.
 ghost use Rattle.std.specs.Prelude.{◌≡◌, ◌≤◌, true};
-ghost use Rattle.orders.specs.Orders.{orders};
+ghost use Rattle.order_table.specs.Orders.{orders};
 ghost use Rattle.series.specs.Held.{held_well, opened_or_quiet};
 
 use crate::away::AwayQuotes;
 use market::auction::Auction;
 use market::close::Close;
 use market::units::Millis;
-use orders::table::Table;
+use order_table::table::Table;
 
 mod auction_calls;
 mod auction_checks;

@@ -7,8 +7,8 @@ ghost use Rattle.rules.specs.Calls as calls;
 ghost use Rattle.rules.specs.Calls.{new_order};
 ghost use Rattle.rules.specs.Runs.{nothing};
 ghost use Rattle.rules.specs.Runs as runs;
-ghost use Rattle.orders.specs.Orders.{orders};
-ghost use Rattle.orders.specs.Records.{customers, auction_contra};
+ghost use Rattle.order_table.specs.Orders.{orders};
+ghost use Rattle.order_table.specs.Records.{customers, auction_contra};
 ghost use Rattle.series.specs.Answers.{Answers, told_start, told_entry, handed_start};
 ghost use Rattle.series.specs.Contra.{contra_side};
 ghost use Rattle.series.specs.State.{state};
@@ -24,7 +24,7 @@ use market::order::{Account, OrderKind, Role, Side};
 use market::refusal::Refusal;
 use market::row::Row;
 use market::units::{Cents, Contracts, Millis};
-use orders::table::Table;
+use order_table::table::Table;
 use sharing::rule::SharingRule;
 
 // How long an auction runs.

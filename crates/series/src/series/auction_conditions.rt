@@ -12,8 +12,8 @@ use crate::ticket::Ticket;
 use market::auction::Auction;
 use market::order::{Order, Side};
 use market::units::{Cents, Contracts, Millis};
-use orders::prices::{better_price, book_best, is_better};
-use orders::select::{Filter, count, find};
+use order_table::prices::{better_price, book_best, is_better};
+use order_table::select::{Filter, count, find};
 use sharing::rule::SharingRule;
 
 // Places for the starter's order and the competing ones.

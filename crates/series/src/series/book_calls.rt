@@ -13,8 +13,8 @@ use market::order::{Account, OrderKind, Role, Side};
 use market::refusal::Refusal;
 use market::row::Row;
 use market::units::{Contracts, Millis};
-use orders::departures::{Departure, write_departures};
-use orders::select::Filter;
+use order_table::departures::{Departure, write_departures};
+use order_table::select::Filter;
 use sharing::rule::SharingRule;
 
 impl<R: SharingRule> Series<R> {

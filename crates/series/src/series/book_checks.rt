@@ -13,7 +13,7 @@ use market::order::{Account, Order, OrderKind, Side};
 use market::refusal::Refusal;
 use market::row::Row;
 use market::units::{Cents, Contracts, Millis};
-use orders::select::{Filter, find};
+use order_table::select::{Filter, find};
 use sharing::rule::SharingRule;
 
 const MARKETS: u8 = 8;

@@ -14,8 +14,8 @@ use market::close::Close;
 use market::quote::Quote;
 use market::refusal::Refusal;
 use market::units::{Cents, Contracts, Millis};
-use orders::select::Filter;
-use orders::table::Table;
+use order_table::select::Filter;
+use order_table::table::Table;
 use sharing::rule::SharingRule;
 
 impl<R: SharingRule> Series<R> {

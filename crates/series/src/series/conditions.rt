@@ -8,7 +8,7 @@ use crate::series::Series;
 use market::auction::Auction;
 use market::row::Row;
 use market::units::Millis;
-use orders::select::{Filter, count};
+use order_table::select::{Filter, count};
 use sharing::rule::SharingRule;
 
 // The last time of a day, and the last at which an exposure or an auction may begin.

@@ -6,8 +6,8 @@ ghost use Rattle.rules.specs.Calls.{resting, remainder};
 ghost use Rattle.rules.specs.Calls as calls;
 ghost use Rattle.rules.specs.Prices.{cents};
 ghost use Rattle.rules.specs.Runs.{nothing};
-ghost use Rattle.orders.specs.Changes.{admissible};
-ghost use Rattle.orders.specs.Orders.{orders};
+ghost use Rattle.order_table.specs.Changes.{admissible};
+ghost use Rattle.order_table.specs.Orders.{orders};
 ghost use Rattle.series.specs.Answers.{Answers, told_entry};
 ghost use Rattle.series.specs.Entering.{Enterable, Admitted};
 ghost use Rattle.series.specs.Remainders.{standing_orders, returning_rows};
@@ -25,9 +25,9 @@ use market::row::{Row, RowKind};
 use market::units::{Cents, Contracts, Millis};
 use matching::allocation::Taking;
 use matching::take::Taker;
-use orders::prices::{bound, reaches};
-use orders::select::Filter;
-use orders::table::Table;
+use order_table::prices::{bound, reaches};
+use order_table::select::Filter;
+use order_table::table::Table;
 use sharing::rule::SharingRule;
 
 // How long a remainder is exposed.

@@ -3,8 +3,8 @@ ghost use Rattle.std.specs.Prelude.{◌≡◌, ◌≤◌, ◌++◌, map, length,
 ghost use Rattle.rules.specs.Calls.{withdrawn_row, without};
 ghost use Rattle.rules.specs.Calls as calls;
 ghost use Rattle.rules.specs.Runs as runs;
-ghost use Rattle.orders.specs.Filters.{passes};
-ghost use Rattle.orders.specs.Orders.{orders};
+ghost use Rattle.order_table.specs.Filters.{passes};
+ghost use Rattle.order_table.specs.Orders.{orders};
 ghost use Rattle.series.specs.Answers.{Answers, told_rows};
 ghost use Rattle.series.specs.Finishing.{customer_taker, Finished};
 ghost use Rattle.series.specs.State.{state};
@@ -20,9 +20,9 @@ use market::row::Row;
 use market::units::{Contracts, Millis};
 use matching::allocation::Taking;
 use matching::take::Taker;
-use orders::departures::{Departure, write_departures};
-use orders::select::Filter;
-use orders::table::Table;
+use order_table::departures::{Departure, write_departures};
+use order_table::select::Filter;
+use order_table::table::Table;
 use sharing::rule::SharingRule;
 
 // Writes the W rows of the orders outside the book, for which there is room, and answers how many.

@@ -1,6 +1,6 @@
 // The opening of a series.
 ghost use Rattle.std.specs.Prelude.{◌≡◌, ◌≤◌, length};
-ghost use Rattle.orders.specs.Orders.{orders};
+ghost use Rattle.order_table.specs.Orders.{orders};
 ghost use Rattle.rules.specs.Calls as calls;
 ghost use Rattle.series.specs.Answers.{Answers, told_open, handed_open};
 ghost use Rattle.series.specs.Openings.{Priced, Matched};
@@ -14,7 +14,7 @@ use market::refusal::Refusal;
 use market::row::Row;
 use market::units::{Cents, Millis};
 use matching::opening::open_at;
-use orders::table::Table;
+use order_table::table::Table;
 use sharing::rule::SharingRule;
 
 // Matches the orders at the opening price, if there is one, and answers how many rows are written.

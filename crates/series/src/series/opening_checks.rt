@@ -15,7 +15,7 @@ use market::order::{Order, OrderKind};
 use market::refusal::Refusal;
 use market::row::Row;
 use market::units::{Cents, Millis};
-use orders::prices::is_out_of_range;
+use order_table::prices::is_out_of_range;
 use sharing::rule::SharingRule;
 
 fn is_on_opening(kind: OrderKind) -> bool

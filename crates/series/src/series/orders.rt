@@ -4,15 +4,15 @@ ghost use Rattle.market.specs.Words.{limit_at};
 ghost use Rattle.market.specs.declared.order.Account.TheVariants.{MarketMaker};
 ghost use Rattle.rules.specs.Calls.{new_order, without_old, withdrawn_rows};
 ghost use Rattle.rules.specs.Runs.{written};
-ghost use Rattle.orders.specs.Changes.{admissible};
-ghost use Rattle.orders.specs.Orders.{orders};
+ghost use Rattle.order_table.specs.Changes.{admissible};
+ghost use Rattle.order_table.specs.Orders.{orders};
 
 use market::order::{Account, Order, OrderKind, Role, Side};
 use market::row::Row;
 use market::units::{Cents, Contracts};
-use orders::departures::Departure;
-use orders::select::Filter;
-use orders::table::Table;
+use order_table::departures::Departure;
+use order_table::select::Filter;
+use order_table::table::Table;
 
 // An order of which nothing has traded.
 pub(super) fn new_order(

@@ -1,14 +1,14 @@
 // Taking from the table of a series.
 ghost use Rattle.std.specs.Prelude.{◌≤◌, length, count_by};
-ghost use Rattle.orders.specs.Filters.{passes};
-ghost use Rattle.orders.specs.Orders.{orders};
+ghost use Rattle.order_table.specs.Filters.{passes};
+ghost use Rattle.order_table.specs.Orders.{orders};
 ghost use Rattle.matching.specs.Taking.{Took};
 
 use market::row::Row;
 use market::units::Contracts;
 use matching::take::{Taken, Taker, take};
-use orders::select::Filter;
-use orders::table::Table;
+use order_table::select::Filter;
+use order_table::table::Table;
 use sharing::rule::SharingRule;
 
 // Takes what is in bounds, which is never refused.

@@ -4,7 +4,7 @@ use Rattle.market.specs.declared.close.Close.{Close}
 use Rattle.market.specs.declared.order.Order.{Order}
 use Rattle.market.specs.declared.order.Side.TheVariants.{Buy, Sell}
 use Rattle.rules.specs.Opening as openings
-use Rattle.orders.proofs.Records.{live_prices, live_small}
+use Rattle.order_table.proofs.Records.{live_prices, live_small}
 use Rattle.discovery.specs.declared.opening_price.Opening.{Opening}
 use Rattle.discovery.proofs.BestFound.{laid_span, top_none, top_some}
 use Rattle.discovery.proofs.opening_price.top.Goals as goal

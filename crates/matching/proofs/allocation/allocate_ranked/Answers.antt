@@ -9,7 +9,7 @@ use Rattle.rules.specs.Law.{Rising}
 use Rattle.rules.proofs.Matching.{rising_kept}
 use Rattle.rules.proofs.Takes.{all_by_priority}
 use Rattle.rules.proofs.Tally.{all_of}
-use Rattle.orders.specs.Filters.{passes}
+use Rattle.order_table.specs.Filters.{passes}
 use Rattle.matching.specs.Places.{at, orders_at, TrueRank, Sorted}
 use Rattle.matching.proofs.Levels.{map_same}
 use Rattle.matching.proofs.Stable.{ranks_true, ranked_stand, sorted_by_priority, level_sorted, fill_sorted, length_by_priority}

@@ -13,7 +13,7 @@ use Rattle.matching.specs.Ranking.{by_rank, ranked_from}
 use Rattle.matching.specs.Scattering.{scattered}
 use Rattle.matching.specs.declared.priority.Ranked.{Ranked}
 use Rattle.matching.proofs.Listing.{numbered_map}
-use Rattle.orders.proofs.Records.{live_small, rising_from}
+use Rattle.order_table.proofs.Records.{live_small, rising_from}
 use Rattle.matching.proofs.Scattering.{places_inside}
 use Rattle.matching.proofs.Stable.{ranked_stand}
 use Rattle.matching.proofs.Takings.{rest_is, rest_written}

@@ -3,14 +3,14 @@ use Rattle.std.proofs.lemmas.Bool.{cond-true, le-leb}
 use Rattle.market.specs.Refusals.{first_hit}
 use Rattle.market.specs.declared.order.Order.{Order}
 use Rattle.rules.specs.Opening.{opening_rows}
-use Rattle.orders.specs.Changes.{limited_at}
+use Rattle.order_table.specs.Changes.{limited_at}
 use Rattle.rules.specs.Volume.{matched_volume, of_order}
 use Rattle.rules.proofs.Fills.{fill_within}
 use Rattle.sharing.specs.Asked.{counts}
 use Rattle.sharing.proofs.Counts.{length_counts}
-use Rattle.orders.specs.Changes.{limited, settled}
-use Rattle.orders.specs.Orders.{orders}
-use Rattle.orders.proofs.Records.{live_upto, table_live}
+use Rattle.order_table.specs.Changes.{limited, settled}
+use Rattle.order_table.specs.Orders.{orders}
+use Rattle.order_table.proofs.Records.{live_upto, table_live}
 use Rattle.matching.specs.Matching.{both_filled, opening_checks, wills}
 use Rattle.matching.proofs.Bounds.{opening_bounds, front_fits, front_is}
 use Rattle.matching.proofs.Opened.{each_few, left_opened, matched_small, own_wills}

@@ -5,10 +5,10 @@ use Rattle.market.specs.declared.order.Order.{Order}
 use Rattle.rules.proofs.Fills.{fill_within, fill_whole}
 use Rattle.sharing.specs.Asked.{counts}
 use Rattle.sharing.proofs.Counts.{length_counts}
-use Rattle.orders.specs.Changes.{settled}
-use Rattle.orders.specs.Filters.{passes}
-use Rattle.orders.specs.Orders.{orders}
-use Rattle.orders.proofs.Records.{live_upto, table_live}
+use Rattle.order_table.specs.Changes.{settled}
+use Rattle.order_table.specs.Filters.{passes}
+use Rattle.order_table.specs.Orders.{orders}
+use Rattle.order_table.proofs.Records.{live_upto, table_live}
 use Rattle.matching.specs.Scattering.{filled_places}
 use Rattle.matching.specs.Taking.{taker_fill, taking_checks, trades_of}
 use Rattle.matching.proofs.Bounds.{taking_bounds, front_fits, front_is}

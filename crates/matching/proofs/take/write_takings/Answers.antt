@@ -7,14 +7,14 @@ use Rattle.market.specs.declared.order.Order.{Order}
 use Rattle.market.specs.declared.units.Contracts.{Contracts}
 use Rattle.rules.specs.Allocation.{by_priority, fill}
 use Rattle.sharing.specs.Asked.{counts}
-use Rattle.orders.specs.Filters.{passes}
+use Rattle.order_table.specs.Filters.{passes}
 use Rattle.matching.specs.Places.{at, orders_at}
 use Rattle.matching.specs.Ranking.{by_rank, ranked_from}
-use Rattle.orders.specs.Records.{Live}
+use Rattle.order_table.specs.Records.{Live}
 use Rattle.matching.specs.Rows.{trade_rows}
 use Rattle.matching.specs.Scattering.{scattered}
 use Rattle.matching.specs.declared.priority.Ranked.{Ranked}
-use Rattle.orders.proofs.Records.{live_small, rising_from}
+use Rattle.order_table.proofs.Records.{live_small, rising_from}
 use Rattle.matching.proofs.Scattering.{places_inside}
 use Rattle.matching.proofs.Takings.{rest_is, ranks_few, rows_are}
 use Rattle.matching.proofs.take.write_takings.Goals as goal

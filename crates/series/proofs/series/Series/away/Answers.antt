@@ -22,6 +22,6 @@ pub replace-requires : goal.replace-requires
 replace-requires g c =
     let a = c.args in
     let st = state a.self.now in
-    let e = c.in-ok-check-away.ensures in
+    let e = c.in_ok-check_away.ensures in
     let n = numbered st a.time a.market a.bid a.offer e in
     record { first = n.0; last = n.1; span = not_from_false _ (all_clear (checks st (away a.time a.market a.bid a.offer)) e).1.1.0 }

@@ -16,9 +16,9 @@ use Rattle.rules.specs.Calls.{Ticket, Effect, better, bettered, checks, effect, 
 use Rattle.rules.specs.Runs.{accepted, written}
 use Rattle.rules.specs.Runs as runs
 use Rattle.rules.specs.Series.{starter_order}
-use Rattle.orders.specs.Changes.{admissible}
-use Rattle.orders.specs.Orders.{orders}
-use Rattle.orders.specs.Records.{auction_contra}
+use Rattle.order_table.specs.Changes.{admissible}
+use Rattle.order_table.specs.Orders.{orders}
+use Rattle.order_table.specs.Records.{auction_contra}
 use Rattle.sharing.specs.Sharing.{Sharing}
 use Rattle.series.specs.Answers.{Answers}
 use Rattle.series.specs.Held.{held_well}
@@ -97,41 +97,38 @@ module _ {R : Type 0} (s : Series R) (pass : ℕ) (k : Ticket) (t : Millis) (p :
         (ap (λ (i : ℕ). accepted count (i ∷ []) None) number ∙ ap (λ (i : ℕ). accepted i (s.table.next ∷ []) None) (m ∙ ap (λ (y : Option Order). length (withdrawn_rows y)) was) ∙ ap (λ (y : Effect). accepted (length y.rows) y.numbers None) is)
         (w ∙ ap (λ (y : Option Order). written (withdrawn_rows y) rows) was ∙ ap (λ (y : Effect). written y.rows rows) is) refl
 
-pub replace-order-count-requires : goal.replace-order-count-requires
-replace-order-count-requires g c =
+pub replace_order-count-requires : goal.replace_order-count-requires
+replace_order-count-requires g c =
     let a = c.args in
     let s = a.self.now in
     let au = c.in-Some.auction in
-    let clear = c.in-ok-check-better.ensures in
+    let clear = c.in_ok-check_better.ensures in
     record {
       room = has_rows s a.pass.now.series (shown a.ticket.now) a.time a.price a.rows.now clear au c.in-Some.is;
-      admissible = admitted s a.pass.now.series (shown a.ticket.now) a.time a.price a.rows.now clear au c.in-Some.is c.starter-order-old.result c.starter-order-old.ensures c.next-number.result c.next-number.ensures c.other-side.result c.other-side.ensures c.maker-order-order.result c.maker-order-order.ensures;
+      admissible = admitted s a.pass.now.series (shown a.ticket.now) a.time a.price a.rows.now clear au c.in-Some.is c.starter_order-old.result c.starter_order-old.ensures c.next-number.result c.next-number.ensures c.other-side.result c.other-side.ensures c.maker_order-order.result c.maker_order-order.ensures;
     }
 
-pub invariant-of-self : goal.invariant-of-self
-invariant-of-self g c =
+pub invariant_of-self : goal.invariant_of-self
+invariant_of-self g c =
     let a = c.args in
     let s = a.self.now in
     let au = c.in-Some.auction in
-    let clear = c.in-ok-check-better.ensures in (
-      in_day s a.pass.now.series (shown a.ticket.now) a.time a.price a.rows.now clear au c.in-Some.is,
-      (
-        holds s a.pass.now.series (shown a.ticket.now) a.time a.price a.rows.now clear au c.in-Some.is c.starter-order-old.result c.starter-order-old.ensures c.next-number.result c.next-number.ensures c.other-side.result c.other-side.ensures c.maker-order-order.result c.maker-order-order.ensures
-            (orders c.replace-order-count.new.table) c.replace-order-count.ensures.records,
-        (or_left s.trading (not (is_some (Some au))) (trades s a.pass.now.series (shown a.ticket.now) a.time a.price a.rows.now clear au c.in-Some.is), tt),
-      ),
-    )
+    let clear = c.in_ok-check_better.ensures in record {
+      day = in_day s a.pass.now.series (shown a.ticket.now) a.time a.price a.rows.now clear au c.in-Some.is;
+      held = holds s a.pass.now.series (shown a.ticket.now) a.time a.price a.rows.now clear au c.in-Some.is c.starter_order-old.result c.starter_order-old.ensures c.next-number.result c.next-number.ensures c.other-side.result c.other-side.ensures c.maker_order-order.result c.maker_order-order.ensures (orders c.replace_order-count.new.table) c.replace_order-count.ensures.records;
+      quiet = or_left s.trading (not (is_some (Some au))) (trades s a.pass.now.series (shown a.ticket.now) a.time a.price a.rows.now clear au c.in-Some.is);
+    }
 
 pub returns : goal.returns
 returns g c =
     let a = c.args in
     let s = a.self.now in
     let au = c.in-Some.auction in
-    let put = c.replace-order-count in
-    let clear = c.in-ok-check-better.ensures in
+    let put = c.replace_order-count in
+    let clear = c.in_ok-check_better.ensures in
     record {
       rule = refl {a = s.rule};
       answers =
-          answered s a.pass.now.series (shown a.ticket.now) a.time a.price a.rows.now clear au c.in-Some.is c.starter-order-old.result c.starter-order-old.ensures c.next-number.result c.next-number.ensures c.other-side.result c.other-side.ensures c.maker-order-order.result c.maker-order-order.ensures
+          answered s a.pass.now.series (shown a.ticket.now) a.time a.price a.rows.now clear au c.in-Some.is c.starter_order-old.result c.starter_order-old.ensures c.next-number.result c.next-number.ensures c.other-side.result c.other-side.ensures c.maker_order-order.result c.maker_order-order.ensures
           (g.R.SharingRule.shared s.rule) put.new.table.next (orders put.new.table) put.new.rows put.result put.ensures.numbers put.ensures.records put.ensures.count put.ensures.rows;
     }

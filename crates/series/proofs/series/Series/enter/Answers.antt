@@ -12,8 +12,8 @@ use Rattle.rules.specs.Calls.{enter, checks}
 use Rattle.rules.specs.Prices.{cents}
 use Rattle.rules.specs.Series.{State}
 use Rattle.rules.proofs.Plain.{grid_fine, size_fine}
-use Rattle.orders.specs.Orders.{orders}
-use Rattle.orders.specs.Records.{booked}
+use Rattle.order_table.specs.Orders.{orders}
+use Rattle.order_table.specs.Records.{booked}
 use Rattle.series.specs.State.{state}
 use Rattle.series.proofs.Answering.{all_clear}
 use Rattle.series.proofs.Entering.{enterable, held_entered, enters}
@@ -40,41 +40,45 @@ accepted st pass t m s a p n rows e =
       numbers = omega (arith, ltb-false 65536 (st.next + 1) h.1.1.1.1.1.1.1.1.0);
     }
 
-pub overflow-cast-number : goal.overflow-cast-number
-overflow-cast-number g c =
+pub overflow_cast-number : goal.overflow_cast-number
+overflow_cast-number g c =
     let a = c.args in
-    let k = accepted (state a.self.now) a.pass.now.series a.time a.member a.side a.account a.price a.size a.rows.now c.in-ok-check-enter.ensures in
+    let k = accepted (state a.self.now) a.pass.now.series a.time a.member a.side a.account a.price a.size a.rows.now c.in_ok-check_enter.ensures in
     omega (arith, c.next-number.ensures, k.numbers)
 
-pub enter-order-count-requires : goal.enter-order-count-requires
-enter-order-count-requires g c =
+pub enter_order-count-requires : goal.enter_order-count-requires
+enter_order-count-requires g c =
     let a = c.args in
-    let k = accepted (state a.self.now) a.pass.now.series a.time a.member a.side a.account a.price a.size a.rows.now c.in-ok-check-enter.ensures in
+    let k = accepted (state a.self.now) a.pass.now.series a.time a.member a.side a.account a.price a.size a.rows.now c.in_ok-check_enter.ensures in
     record {
-      order = enterable c.new-order-order.result a.self.now.table c.next-number.result a.member a.side a.account a.price a.size c.new-order-order.ensures c.next-number.ensures k.numbers k.price k.size k.book;
+      order = enterable c.new_order-order.result a.self.now.table c.next-number.result a.member a.side a.account a.price a.size c.new_order-order.ensures c.next-number.ensures k.numbers k.price k.size k.book;
       best = c.best-best.ensures.span;
       room = k.room;
     }
 
-pub invariant-of-self : goal.invariant-of-self
-invariant-of-self g c =
+pub invariant_of-self : goal.invariant_of-self
+invariant_of-self g c =
     let a = c.args in
     let s = a.self.now in
     let rule = g.R.SharingRule.shared s.rule in
-    let k = accepted (state s) a.pass.now.series a.time a.member a.side a.account a.price a.size a.rows.now c.in-ok-check-enter.ensures in
-    let o = c.new-order-order.result in
+    let k = accepted (state s) a.pass.now.series a.time a.member a.side a.account a.price a.size a.rows.now c.in_ok-check_enter.ensures in
+    let o = c.new_order-order.result in
     let day : a.time.count ≤ 86400000 = omega (arith, k.timely) in
-    let e = c.enter-order-count in
-    (day, (held_entered s.auction rule (orders s.table) (orders e.new.table) o (cents c.best-best.result) (a.time.count + 3000) c.next-number.result a.member a.side a.account a.price a.size c.new-order-order.ensures s.held e.ensures.left, (s.quiet, tt)))
+    let e = c.enter_order-count in
+    record {
+      day = day;
+      held = held_entered s.auction rule (orders s.table) (orders e.new.table) o (cents c.best-best.result) (a.time.count + 3000) c.next-number.result a.member a.side a.account a.price a.size c.new_order-order.ensures s.held e.ensures.left;
+      quiet = s.quiet;
+    }
 
 pub returns : goal.returns
 returns g c =
     let a = c.args in
     let s = a.self.now in
-    let e = c.enter-order-count in
+    let e = c.enter_order-count in
     record {
       rule = refl {a = s.rule};
       answers =
-          enters (g.R.SharingRule.shared s.rule) (state s) a.pass.now.series a.time a.member a.side a.account a.price a.size a.rows.now e.new.rows s.table e.new.table c.new-order-order.result (cents c.best-best.result) c.next-number.result e.result
-          c.in-ok-check-enter.ensures refl refl c.next-number.ensures c.new-order-order.ensures c.best-best.ensures.best e.ensures;
+          enters (g.R.SharingRule.shared s.rule) (state s) a.pass.now.series a.time a.member a.side a.account a.price a.size a.rows.now e.new.rows s.table e.new.table c.new_order-order.result (cents c.best-best.result) c.next-number.result e.result
+          c.in_ok-check_enter.ensures refl refl c.next-number.ensures c.new_order-order.ensures c.best-best.ensures.best e.ensures;
     }

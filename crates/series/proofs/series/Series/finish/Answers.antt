@@ -6,8 +6,8 @@ use Rattle.market.specs.declared.row.Row.{Row}
 use Rattle.market.specs.declared.units.Millis.{Millis}
 use Rattle.rules.specs.Calls.{Ticket, finish, checks}
 use Rattle.rules.specs.Series.{State}
-use Rattle.orders.specs.Orders.{orders}
-use Rattle.orders.proofs.Records.{table_live}
+use Rattle.order_table.specs.Orders.{orders}
+use Rattle.order_table.proofs.Records.{table_live}
 use Rattle.series.specs.Held.{held_well}
 use Rattle.series.specs.State.{state}
 use Rattle.series.specs.Tickets.{shown}
@@ -28,8 +28,8 @@ accepted st k t rows e =
       room = ltb-false (length rows) 192 h.1.1.1.0;
     }
 
-pub finish-auction-count-requires : goal.finish-auction-count-requires
-finish-auction-count-requires g c =
+pub finish_auction-count-requires : goal.finish_auction-count-requires
+finish_auction-count-requires g c =
     let s = c.args.self.now in
     let a = c.in-Some.auction in
     let os = orders s.table in
@@ -39,24 +39,28 @@ finish-auction-count-requires g c =
       claims = contra_few a os s.table.next live held;
       others = others_few a os s.table.next live held;
       size = auction_sized a os s.table.next live held;
-      room = (accepted (state s) (shown c.args.ticket.now) c.args.time c.args.rows.now c.in-ok-check-finish.ensures).room;
+      room = (accepted (state s) (shown c.args.ticket.now) c.args.time c.args.rows.now c.in_ok-check_finish.ensures).room;
     }
 
-pub invariant-of-self : goal.invariant-of-self
-invariant-of-self g c =
+pub invariant_of-self : goal.invariant_of-self
+invariant_of-self g c =
     let s = c.args.self.now in
-    let f = c.finish-auction-count in
-    let k = accepted (state s) (shown c.args.ticket.now) c.args.time c.args.rows.now c.in-ok-check-finish.ensures in
-    (k.timely, (held_finished (g.R.SharingRule.shared s.rule) (orders s.table) (orders f.new.table) c.in-Some.auction f.ensures.left, (or_right s.trading true refl, tt)))
+    let f = c.finish_auction-count in
+    let k = accepted (state s) (shown c.args.ticket.now) c.args.time c.args.rows.now c.in_ok-check_finish.ensures in
+    record {
+      day = k.timely;
+      held = held_finished (g.R.SharingRule.shared s.rule) (orders s.table) (orders f.new.table) c.in-Some.auction f.ensures.left;
+      quiet = or_right s.trading true refl;
+    }
 
 pub returns-in-Some : goal.returns-in-Some
 returns-in-Some g c =
     let a = c.args in
     let s = a.self.now in
-    let f = c.finish-auction-count in
+    let f = c.finish_auction-count in
     record {
       rule = refl {a = s.rule};
       answers =
           finishes (g.R.SharingRule.shared s.rule) (state s) (shown a.ticket.now) a.time a.rows.now f.new.rows s.table f.new.table c.in-Some.auction f.result
-          c.in-ok-check-finish.ensures c.in-Some.is refl refl f.ensures;
+          c.in_ok-check_finish.ensures c.in-Some.is refl refl f.ensures;
     }

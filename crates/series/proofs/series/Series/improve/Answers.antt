@@ -14,9 +14,9 @@ use Rattle.market.specs.declared.units.Contracts.{Contracts}
 use Rattle.market.specs.declared.units.Millis.{Millis}
 use Rattle.rules.specs.Calls.{improve, checks, new_order, without_old}
 use Rattle.rules.specs.Series.{replaced}
-use Rattle.orders.specs.Changes.{admissible}
-use Rattle.orders.specs.Orders.{orders}
-use Rattle.orders.specs.Records.{auction_contra}
+use Rattle.order_table.specs.Changes.{admissible}
+use Rattle.order_table.specs.Orders.{orders}
+use Rattle.order_table.specs.Records.{auction_contra}
 use Rattle.series.specs.Held.{held_well}
 use Rattle.series.specs.State.{state}
 use Rattle.series.specs.declared.series.Series.{Series}
@@ -62,32 +62,29 @@ module _ {R : Type 0} (s : Series R) (pass : ℕ) (t : Millis) (m : ℕ) (p : Ce
         held_same s.auction os (stay ++ (x ∷ [])) (e ∙ ap (λ (y : Option Order). without_old y (orders s.table) ++ (x ∷ [])) was)
         (held_improved m r (state s) s.table.next s.auction x s.table.rising (not-false (is_some s.auction) passed.1.1.1.1.1.1.1.1.1.1.0) (ap (λ (o : Order). auctioned o.role) new) s.held)
 
-pub overflow-cast-number : goal.overflow-cast-number
-overflow-cast-number g c =
+pub overflow_cast-number : goal.overflow_cast-number
+overflow_cast-number g c =
     let a = c.args in
-    omega (arith, has_number a.self.now a.pass.now.series a.time a.member a.price a.size a.replaces a.rows.now c.in-ok-check-improve.ensures, c.next-number.ensures)
+    omega (arith, has_number a.self.now a.pass.now.series a.time a.member a.price a.size a.replaces a.rows.now c.in_ok-check_improve.ensures, c.next-number.ensures)
 
-pub replace-order-count-requires : goal.replace-order-count-requires
-replace-order-count-requires g c =
+pub replace_order-count-requires : goal.replace_order-count-requires
+replace_order-count-requires g c =
     let a = c.args in
     let s = a.self.now in
-    let clear = c.in-ok-check-improve.ensures in
+    let clear = c.in_ok-check_improve.ensures in
     record {
       room = has_rows s a.pass.now.series a.time a.member a.price a.size a.replaces a.rows.now clear;
       admissible =
           admitted s a.pass.now.series a.time a.member a.price a.size a.replaces a.rows.now clear c.replaced-old.result c.replaced-old.ensures c.next-number.result
-          c.contra-side-side.result c.maker-order-order.result c.maker-order-order.ensures c.next-number.ensures;
+          c.contra_side-side.result c.maker_order-order.result c.maker_order-order.ensures c.next-number.ensures;
     }
 
-pub invariant-of-self : goal.invariant-of-self
-invariant-of-self g c =
+pub invariant_of-self : goal.invariant_of-self
+invariant_of-self g c =
     let a = c.args in
     let s = a.self.now in
-    let clear = c.in-ok-check-improve.ensures in (
-      in_day s a.pass.now.series a.time a.member a.price a.size a.replaces a.rows.now clear,
-      (
-        holds s a.pass.now.series a.time a.member a.price a.size a.replaces a.rows.now clear c.replaced-old.result c.replaced-old.ensures c.next-number.result
-            c.contra-side-side.result c.maker-order-order.result c.maker-order-order.ensures (orders c.replace-order-count.new.table) c.replace-order-count.ensures.records,
-        (s.quiet, tt),
-      ),
-    )
+    let clear = c.in_ok-check_improve.ensures in record {
+      day = in_day s a.pass.now.series a.time a.member a.price a.size a.replaces a.rows.now clear;
+      held = holds s a.pass.now.series a.time a.member a.price a.size a.replaces a.rows.now clear c.replaced-old.result c.replaced-old.ensures c.next-number.result c.contra_side-side.result c.maker_order-order.result c.maker_order-order.ensures (orders c.replace_order-count.new.table) c.replace_order-count.ensures.records;
+      quiet = s.quiet;
+    }

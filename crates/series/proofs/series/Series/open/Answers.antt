@@ -5,8 +5,8 @@ use Rattle.market.specs.declared.row.Row.{Row}
 use Rattle.market.specs.declared.units.Millis.{Millis}
 use Rattle.rules.specs.Calls.{opening, checks}
 use Rattle.rules.specs.Series.{State}
-use Rattle.orders.specs.Orders.{orders}
-use Rattle.orders.proofs.Records.{table_live}
+use Rattle.order_table.specs.Orders.{orders}
+use Rattle.order_table.proofs.Records.{table_live}
 use Rattle.series.specs.State.{state}
 use Rattle.series.proofs.Answering.{all_clear}
 use Rattle.series.proofs.Opening.{quiet_before, few_orders, priced_top, held_after}
@@ -27,8 +27,8 @@ accepted st pass t w rows e =
       room = ltb-false (length rows) 192 h.1.1.0;
     }
 
-pub match-orders-count-requires : goal.match-orders-count-requires
-match-orders-count-requires g c =
+pub match_orders-count-requires : goal.match_orders-count-requires
+match_orders-count-requires g c =
     let a = c.args in
     let s = a.self.now in
     let os = orders s.table in
@@ -40,12 +40,16 @@ match-orders-count-requires g c =
       price = priced_top os s.close.price.value c.top-opening.result c.top-opening.ensures;
     }
 
-pub invariant-of-self-in-Ok : goal.invariant-of-self-in-Ok
-invariant-of-self-in-Ok g c =
+pub invariant_of-self-in-Ok : goal.invariant_of-self-in-Ok
+invariant_of-self-in-Ok g c =
     let a = c.args in
     let s = a.self.now in
     let os = orders s.table in
     let rule = g.R.SharingRule.shared s.rule in
     let k = accepted (state s) a.pass.series a.time a.waived a.rows.now c.in-Ok.ensures in
     let none = quiet_before s.trading s.auction s.quiet k.before in
-    (k.timely, (held_after rule s.auction os (orders c.match-orders-count.new.table) c.top-opening.result none s.held c.match-orders-count.ensures.left, (search rules, tt)))
+    record {
+      day = k.timely;
+      held = held_after rule s.auction os (orders c.match_orders-count.new.table) c.top-opening.result none s.held c.match_orders-count.ensures.left;
+      quiet = search rules;
+    }

@@ -12,10 +12,10 @@ use Rattle.market.specs.declared.units.Contracts.{Contracts}
 use Rattle.market.specs.declared.units.Millis.{Millis}
 use Rattle.rules.specs.Calls.{place, checks, new_order}
 use Rattle.rules.specs.Runs.{accepted, nothing}
-use Rattle.orders.specs.Changes.{Appended}
-use Rattle.orders.specs.Orders.{orders}
-use Rattle.orders.specs.Records.{booked}
-use Rattle.orders.specs.declared.table.Table.{Table}
+use Rattle.order_table.specs.Changes.{Appended}
+use Rattle.order_table.specs.Orders.{orders}
+use Rattle.order_table.specs.Records.{booked}
+use Rattle.order_table.specs.declared.table.Table.{Table}
 use Rattle.sharing.specs.Sharing.{Sharing}
 use Rattle.series.specs.State.{state}
 use Rattle.series.specs.declared.series.Series.{Series}
@@ -40,20 +40,21 @@ module _ {R : Type 0} (s : Series R) (pass : ℕ) (t : Millis) (m : ℕ) (side :
       added s.table after b x n m side a k size.count Book h is number (sized size.count (not-false (size_in_span size.count) passed.1.1.1.1.0)).1 (kind_bounded k passed.1.1.1.0)
       (lt-ltb (count_by booked (orders s.table)) 128 (leb-false 128 (count_by booked (orders s.table)) passed.1.1.1.1.1.0))
 
-pub overflow-cast-number : goal.overflow-cast-number
-overflow-cast-number g c =
+pub overflow_cast-number : goal.overflow_cast-number
+overflow_cast-number g c =
     let a = c.args in
-    omega (arith, has_number a.self.now a.pass.now.series a.time a.member a.side a.account a.kind a.size c.in-ok-check-place.ensures, c.next-number.ensures)
+    omega (arith, has_number a.self.now a.pass.now.series a.time a.member a.side a.account a.kind a.size c.in_ok-check_place.ensures, c.next-number.ensures)
 
-pub invariant-of-self : goal.invariant-of-self
-invariant-of-self g c =
+pub invariant_of-self : goal.invariant_of-self
+invariant_of-self g c =
     let a = c.args in
     let s = a.self.now in
-    let clear = c.in-ok-check-place.ensures in
-    let new = placed s a.pass.now.series a.time a.member a.side a.account a.kind a.size clear c.append.new.self c.append.result c.new-order-order.result c.next-number.result c.append.ensures c.new-order-order.ensures c.next-number.ensures in (
-      in_day s a.pass.now.series a.time a.member a.side a.account a.kind a.size clear,
-      (held_same s.auction (orders c.append.new.self) _ new.records (held_pushed s.auction (orders s.table) _ s.held refl), (s.quiet, tt)),
-    )
+    let clear = c.in_ok-check_place.ensures in
+    let new = placed s a.pass.now.series a.time a.member a.side a.account a.kind a.size clear c.append.new.self c.append.result c.new_order-order.result c.next-number.result c.append.ensures c.new_order-order.ensures c.next-number.ensures in record {
+      day = in_day s a.pass.now.series a.time a.member a.side a.account a.kind a.size clear;
+      held = held_same s.auction (orders c.append.new.self) _ new.records (held_pushed s.auction (orders s.table) _ s.held refl);
+      quiet = s.quiet;
+    }
 
 pub returns : goal.returns
 returns g c =
@@ -61,8 +62,8 @@ returns g c =
     let s = a.self.now in
     let st = state s in
     let rule : Sharing = g.R.SharingRule.shared s.rule in
-    let clear = c.in-ok-check-place.ensures in
-    let new = placed s a.pass.now.series a.time a.member a.side a.account a.kind a.size clear c.append.new.self c.append.result c.new-order-order.result c.next-number.result c.append.ensures c.new-order-order.ensures c.next-number.ensures in
+    let clear = c.in_ok-check_place.ensures in
+    let new = placed s a.pass.now.series a.time a.member a.side a.account a.kind a.size clear c.append.new.self c.append.result c.new_order-order.result c.next-number.result c.append.ensures c.new_order-order.ensures c.next-number.ensures in
     record {
       rule = refl {a = s.rule};
       answers =

@@ -12,8 +12,8 @@ play-outcome-requires g c =
     let call = c.args.call in
     let m = c.min-lent.result in
     let e : m ≡ min (lent_to call) 192 = c.min-lent.ensures ∙ ap (λ n. min n 192) c.lent.ensures in
-    ap (λ (k : ℕ). take k c.unused-rows-memory.result) (sub-zero m)
-    ∙ ap (take m) c.unused-rows-memory.ensures
+    ap (λ (k : ℕ). take k c.unused_rows-memory.result) (sub-zero m)
+    ∙ ap (take m) c.unused_rows-memory.ensures
     ∙ lent_part (lent_to call) m e
     ∙ sym (lent_is call)
 
@@ -21,11 +21,11 @@ pub returns : goal.returns
 returns g c =
     let call = c.args.call in
     let m = c.min-lent.result in
-    let room = c.unused-rows-memory.result in
+    let room = c.unused_rows-memory.result in
     let rows = c.play-outcome.new.rows in
     let o = c.play-outcome.result in
     let e : m ≡ min (lent_to call) 192 = c.min-lent.ensures ∙ ap (λ n. min n 192) c.lent.ensures in
-    let long : length room ≡ 192 = ap length c.unused-rows-memory.ensures ∙ unused_long in
+    let long : length room ≡ 192 = ap length c.unused_rows-memory.ensures ∙ unused_long in
     let rest = post_of 0 (m - 0) room in
     let kept = c.play-outcome.auto.rows in
     let back : take (lent_to call) (rows ++ rest) ≡ rows =

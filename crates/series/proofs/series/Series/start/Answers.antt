@@ -12,7 +12,7 @@ use Rattle.market.specs.declared.units.Cents.{Cents}
 use Rattle.market.specs.declared.units.Contracts.{Contracts}
 use Rattle.market.specs.declared.units.Millis.{Millis}
 use Rattle.rules.specs.Calls.{start, checks, new_order}
-use Rattle.orders.specs.Orders.{orders}
+use Rattle.order_table.specs.Orders.{orders}
 use Rattle.series.specs.Held.{held_well}
 use Rattle.series.specs.State.{state}
 use Rattle.series.specs.declared.series.Series.{Series}
@@ -45,12 +45,12 @@ module _ {R : Type 0} (s : Series R) (pass : ℕ) (t : Millis) (m : ℕ) (side :
   trades : s.trading ≡ true
   trades = not-false s.trading (or_parts (not (eqb pass s.number)) (not s.trading) passed.0).1
 
-pub append-pair-started-requires : goal.append-pair-started-requires
-append-pair-started-requires g c =
+pub append_pair-started-requires : goal.append_pair-started-requires
+append_pair-started-requires g c =
     let a = c.args in
     let s = a.self.now in
     let pass = a.pass.now.series in
-    let clear = c.in-ok-check-start.ensures in
+    let clear = c.in_ok-check_start.ensures in
     let outside = all_in_book (orders s.table) (idle s pass a.time a.member a.side a.price a.size clear) in
     record {
       numbers = numbers_left s pass a.time a.member a.side a.price a.size clear;
@@ -60,24 +60,20 @@ append-pair-started-requires g c =
       contra = outside.1;
     }
 
-pub invariant-of-self : goal.invariant-of-self
-invariant-of-self g c =
+pub invariant_of-self : goal.invariant_of-self
+invariant_of-self g c =
     let a = c.args in
     let s = a.self.now in
     let pass = a.pass.now.series in
-    let clear = c.in-ok-check-start.ensures in
-    let pair = c.append-pair-started in
+    let clear = c.in_ok-check_start.ensures in
+    let pair = c.append_pair-started in
     let early = in_time s pass a.time a.member a.side a.price a.size clear in
     let span = size_span s pass a.time a.member a.side a.price a.size clear in
     let au : Auction = record { customer = pair.result.customer; starter = pair.result.starter; member = a.member; side = a.side; size = a.size; end = record { count = a.time.count + 3000 } } in
     let p = limit_at a.price.value in
     let customer = new_order s.table.next a.member a.side Customer p a.size.count Auctioned in
-    let starter = new_order (s.table.next + 1) a.member (other a.side) MarketMaker p a.size.count Starter in (
-      omega arith,
-      (
-        held_same (Some au) (orders pair.new.table) (orders s.table ++ (customer ∷ starter ∷ [])) pair.ensures.records
-            (held_started (orders s.table) au customer starter (idle s pass a.time a.member a.side a.price a.size clear) (span_from au span.0 span.1 (omega arith)) refl (sym pair.ensures.customer) refl
-            (starter_from au starter (eq-eqb _ _ (sym pair.ensures.starter)) refl refl (lt-ltb 0 a.size.count span.0))),
-        (or_left s.trading (not (is_some (Some au))) (trades s pass a.time a.member a.side a.price a.size clear), tt),
-      ),
-    )
+    let starter = new_order (s.table.next + 1) a.member (other a.side) MarketMaker p a.size.count Starter in record {
+      day = omega arith;
+      held = held_same (Some au) (orders pair.new.table) (orders s.table ++ (customer ∷ starter ∷ [])) pair.ensures.records (held_started (orders s.table) au customer starter (idle s pass a.time a.member a.side a.price a.size clear) (span_from au span.0 span.1 (omega arith)) refl (sym pair.ensures.customer) refl (starter_from au starter (eq-eqb _ _ (sym pair.ensures.starter)) refl refl (lt-ltb 0 a.size.count span.0)));
+      quiet = or_left s.trading (not (is_some (Some au))) (trades s pass a.time a.member a.side a.price a.size clear);
+    }

@@ -3,8 +3,8 @@ use Rattle.std.specs.List.{AllByRecursion}
 use Rattle.std.proofs.lemmas.List.{append-nil, take-append-drop, take-set, drop-set}
 use Rattle.market.specs.declared.order.Order.{Order}
 use Rattle.market.specs.declared.row.Row.{Row}
-use Rattle.orders.specs.Changes.{admissible}
-use Rattle.orders.specs.Orders.{orders}
+use Rattle.order_table.specs.Changes.{admissible}
+use Rattle.order_table.specs.Orders.{orders}
 use Rattle.series.specs.Remainders.{standing_orders, returning_rows}
 use Rattle.series.specs.declared.remainder.Remainder.{Remainder}
 use Rattle.series.proofs.Tables.{skipped_next, appended_orders, appended_next}
@@ -29,7 +29,7 @@ returns-in-Nothing c =
     let a = c.args in
     let r = a.remainder in
     let is = c.in-Nothing.is in
-    let s = c.skip-number in
+    let s = c.skip_number in
     record {
       records = none_stand r (orders a.table.now) (orders s.new.self) s.ensures.records (ap standing_orders is);
       numbers = skipped_next a.table.now s.new.self s.result s.ensures c.requires.numbers;
@@ -58,7 +58,7 @@ returns-in-Returned c =
     let a = c.args in
     let r = a.remainder in
     let is = c.in-Returned.is in
-    let s = c.skip-number-in-Returned in
+    let s = c.skip_number-in-Returned in
     record {
       records = none_stand r (orders a.table.now) (orders s.new.self) s.ensures.records (ap standing_orders is);
       numbers = skipped_next a.table.now s.new.self s.result s.ensures c.requires.numbers;

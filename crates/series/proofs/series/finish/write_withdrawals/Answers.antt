@@ -4,8 +4,8 @@ use Rattle.std.proofs.lemmas.List.Sums.{length-filter}
 use Rattle.std.proofs.lemmas.Bool.{ltb-true}
 use Rattle.market.proofs.Tables.{hit}
 use Rattle.rules.specs.Calls.{withdrawn_row}
-use Rattle.orders.specs.Filters.{passes}
-use Rattle.orders.specs.declared.select.Filter.TheVariants.{Outside}
+use Rattle.order_table.specs.Filters.{passes}
+use Rattle.order_table.specs.declared.select.Filter.TheVariants.{Outside}
 use Rattle.series.proofs.series.finish.write_withdrawals.Goals as goal
 
 pub returns-in-Err : goal.returns-in-Err

@@ -38,7 +38,7 @@ loop-call-preserved g c =
     let noted : event_of entry ≡ event rule before (call_of call) = c.record.ensures.event ∙ ap (λ r. event (g.R.SharingRule.shared r) before (call_of call)) same in
     let more = replaying_more rule number close (take i calls) before items c.loop-call.invariant.1 call entry next moved noted in (
       c.record.ensures.rule ∙ same,
-      subst (λ (js : List JournalEntry). Replaying rule number close (take (i + 1) calls) next js) (sym c.in-ok-push.ensures.items)
+      subst (λ (js : List JournalEntry). Replaying rule number close (take (i + 1) calls) next js) (sym c.in_ok-push.ensures.items)
           (subst (λ (ds : List DayCall). Replaying rule number close ds next (items ++ (entry ∷ []))) (sym (take_more calls i no_call c.loop-call-test.true)) more),
     )
 

@@ -1,9 +1,9 @@
 use Rattle.std.proofs.Common.{filter, arith}
 use Rattle.std.proofs.lemmas.List.Sums.{length-filter}
 use Rattle.rules.proofs.Fills.{fill_whole}
-use Rattle.orders.specs.Filters.{passes}
-use Rattle.orders.specs.Orders.{orders}
-use Rattle.orders.proofs.Records.{live_upto, table_live}
+use Rattle.order_table.specs.Filters.{passes}
+use Rattle.order_table.specs.Orders.{orders}
+use Rattle.order_table.proofs.Records.{live_upto, table_live}
 use Rattle.matching.proofs.Takings.{lot_passing}
 use Rattle.series.proofs.series.taking.take_in_bounds.Goals as goal
 

@@ -1,6 +1,0 @@
-use Rattle.std.proofs.Common.{◌≡◌, drop}
-use Rattle.rules.specs.Prices.{cents, away_best}
-use Rattle.orders.proofs.prices.away_best.Given as goal
-
-abbrev pub invariant-loop-i : goal.invariant-loop-i
-invariant-loop-i l = cents l.best ≡ away_best l.side (drop l.i l.quotes)
