@@ -29,7 +29,8 @@ pub fn write_trades(
     let mut count = 0;
     for (i, r) in ranked.iter().enumerate() {
         let contracts = shares[i];
-        if contracts.count > 0 {
+        let trades = contracts.count > 0;
+        if trades {
             let order = orders[r.place];
             rows[count] = Row::trade(side, taker, order.number, order.kind.price(), contracts);
             count += 1;

@@ -123,10 +123,7 @@ fn most_and_largest_claims(rt: HostRuntime) -> Result<(), Fail> {
     expect(&rt, &ProRata, &claims, 1_599_839, None, 0, &short)
 }
 
-fn expect_refusals<R: SharingRule>(
-    rt: &(impl Abort + AllocGlobal),
-    rule: &R,
-) -> Result<(), Fail> {
+fn expect_refusals<R: SharingRule>(rt: &(impl Abort + AllocGlobal), rule: &R) -> Result<(), Fail> {
     expect_refusal(rt, rule, &[1; 161], 1, 0, 161)?;
     expect_refusal(rt, rule, &[5, 10_000], 1, 0, 2)?;
     expect_refusal(rt, rule, &[5, 5], 1_599_841, 0, 2)?;

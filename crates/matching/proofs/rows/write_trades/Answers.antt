@@ -6,7 +6,7 @@ use Rattle.matching.specs.Places.{at}
 use Rattle.matching.proofs.Sorting.{no_rank}
 use Rattle.matching.proofs.Trades.{no_contracts, trading_one, trading_no, trading_all}
 use Rattle.matching.proofs.rows.write_trades.Goals as goal
-use Rattle.matching.proofs.rows.write_trades.Goals.{then-contracts-gt0, else-contracts-gt0}
+use Rattle.matching.proofs.rows.write_trades.Goals.{then-trades, else-trades}
 
 pub offset_bounds-orders-r : goal.offset_bounds-orders-r
 offset_bounds-orders-r c =
@@ -26,14 +26,14 @@ loop-i-preserved c =
     let n : ℕ = (get_or a.shares.now l.i no_contracts).count in
     let behind = l.invariant.behind in
     let long = l.invariant.long in
-    elim c.if-contracts-gt0.branch [
-      | then-contracts-gt0 w ↦
+    elim c.if-trades.branch [
+      | then-trades w ↦
           rw (w.rows-is, w.count-is)
           (trading_one a.side a.taker a.orders.now a.ranked.now a.shares.now c.requires.even a.rows.now l.rows l.count l.i l.invariant c.loop-i-test.true
-          w.trade.result (w.trade.ensures ∙ ap (λ (p : ℕ). trade a.side a.taker o.number p n) w.price.ensures) w.if-contracts-gt0.true (omega arith))
-      | else-contracts-gt0 w ↦
+          w.trade.result (w.trade.ensures ∙ ap (λ (p : ℕ). trade a.side a.taker o.number p n) w.price.ensures) w.if-trades.true (omega arith))
+      | else-trades w ↦
           rw (w.rows-is, w.count-is)
-          (trading_no a.side a.taker a.orders.now a.ranked.now a.shares.now c.requires.even a.rows.now l.rows l.count l.i l.invariant c.loop-i-test.true w.if-contracts-gt0.false)
+          (trading_no a.side a.taker a.orders.now a.ranked.now a.shares.now c.requires.even a.rows.now l.rows l.count l.i l.invariant c.loop-i-test.true w.if-trades.false)
     ]
 
 pub returns : goal.returns
