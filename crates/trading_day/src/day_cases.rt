@@ -15,6 +15,7 @@ use series::series::replay::replay;
 use sharing::pro_rata::ProRata;
 use sharing::rule::SharingRule;
 use sharing::time::TimeWithGuarantee;
+use std::process::Abort;
 use std::test::*;
 
 #[test]
@@ -39,6 +40,7 @@ fn opening_rows(rt: HostRuntime) -> Result<(), Fail> {
         ],
     )?;
     check_last(
+        &rt,
         &journal,
         &[
             trade(2, 4, 205, 5),
@@ -50,7 +52,7 @@ fn opening_rows(rt: HostRuntime) -> Result<(), Fail> {
 
 // Offers of 4 at 200, 3 at 205 and 9 at 210, an away offer of 205, and a buy of 10 at 210.
 fn check_entry(
-    rt: &HostRuntime,
+    rt: &(impl Abort + AllocGlobal),
     account: Account,
     after: DayCall,
     rows: &[Row],
@@ -68,7 +70,7 @@ fn check_entry(
             (after, 0),
         ],
     )?;
-    check_last(&journal, rows)
+    check_last(rt, &journal, rows)
 }
 
 #[test]
@@ -94,7 +96,7 @@ fn a_linkage_remainder_is_exposed_and_returned(rt: HostRuntime) -> Result<(), Fa
 
 // An away offer of 209, an auction of 20 at 208, improved by 5 at 207 and 10 at 208.
 fn check_auction<R: SharingRule + Drop>(
-    rt: &HostRuntime,
+    rt: &(impl Abort + AllocGlobal),
     rule: R,
     rows: &[Row],
 ) -> Result<(), Fail> {
@@ -110,7 +112,7 @@ fn check_auction<R: SharingRule + Drop>(
             (finish(3_000, ticket(1, false)), 0),
         ],
     )?;
-    check_last(&journal, rows)
+    check_last(rt, &journal, rows)
 }
 
 #[test]

@@ -6,6 +6,7 @@ use market::units::{Cents, Contracts};
 use series::day::{CallAnswer, DayCall, JournalEntry, UNUSED_ROW};
 use series::series::replay::replay;
 use sharing::rule::SharingRule;
+use std::process::Abort;
 use std::test::*;
 
 // The number of an entry's refusal, 0 where the call is accepted.
@@ -26,7 +27,7 @@ pub fn row_count(entry: &JournalEntry) -> usize {
 
 // Replays a day of calls, each with the number of the refusal that it must get, 0 for none.
 pub fn check_day<R: SharingRule + Drop>(
-    rt: &HostRuntime,
+    rt: &(impl Abort + AllocGlobal),
     rule: R,
     day: &[(DayCall, u8)],
 ) -> Result<Vec<JournalEntry>, Fail> {
@@ -36,7 +37,7 @@ pub fn check_day<R: SharingRule + Drop>(
     }
     let journal = replay(rt.alloc(), rule, SERIES, Close::new(CLOSE)?, &calls)?;
     for (entry, (_, expected)) in journal.iter().zip(day.iter()) {
-        assert_eq!(refusal(entry), *expected);
+        assert_eq!(rt; refusal(entry), *expected);
     }
     Ok(journal)
 }
@@ -56,15 +57,19 @@ pub fn trade(buyer: u16, seller: u16, price: u32, count: u32) -> Row {
 }
 
 // The rows of the last call of a day, and the memory behind them.
-pub fn check_last(journal: &[JournalEntry], expected: &[Row]) -> Result<(), Fail> {
+pub fn check_last(
+    rt: &impl Abort,
+    journal: &[JournalEntry],
+    expected: &[Row],
+) -> Result<(), Fail> {
     let Some(entry) = journal.last() else {
         return Err(Fail::new("the journal is empty"));
     };
-    assert_eq!(row_count(entry), expected.len());
+    assert_eq!(rt; row_count(entry), expected.len());
     for (written, wanted) in entry.memory.iter().zip(expected.iter()) {
-        assert!(*written == *wanted, "a row differs");
+        assert!(rt; *written == *wanted, "a row differs");
     }
-    assert!(
+    assert!(rt;
         expected.len() < 192 && entry.memory[expected.len()] == UNUSED_ROW,
         "memory behind the rows is written"
     );
