@@ -1,5 +1,5 @@
 -- The levels of ranked orders, as the code finds them.
-use Rattle.std.proofs.Common.{◌≡◌, ℕ, zero, suc, ◌+◌, ◌-◌, ◌*◌, ◌<◌, ◌≤◌, List, [], ◌∷◌, map, length, get_or, take, drop, sum_by, sum, sym, refl, ap, ◌∙◌, subst, arith}
+use Rattle.std.proofs.Common.{◌≡◌, ℕ, zero, suc, ◌*◌, ◌<◌, ◌≤◌, List, [], ◌∷◌, map, length, get_or, take, drop, sum_by, sum, sym, ap, ◌∙◌, subst, arith}
 use Rattle.std.specs.List.{AllByRecursion}
 use Rattle.std.proofs.ByRecursion.{All-get_or, All-take, All-drop, sum_by_le}
 use Rattle.std.proofs.lemmas.List.{get_or-map, length-map, length-take, take-map, drop-map}
@@ -10,10 +10,10 @@ use Rattle.market.specs.declared.units.Contracts.{Contracts}
 use Rattle.rules.specs.Allocation.{priority}
 use Rattle.sharing.specs.Asked.{counts}
 use Rattle.order_table.specs.Blank.{no_order}
-use Rattle.matching.specs.Places.{at, orders_at, TrueRank, Sorted}
+use Rattle.matching.specs.Places.{at, orders_at, TrueRank}
 use Rattle.matching.specs.Ranking.{priority_at_place}
 use Rattle.matching.specs.declared.priority.Ranked.{Ranked}
-use Rattle.matching.proofs.Levels.{Level, part}
+use Rattle.matching.proofs.Levels.{Level}
 use Rattle.matching.proofs.Sorting.{no_rank}
 
 pub map_part : {X Y : Type 0} (f : X → Y) (from n : ℕ) (xs : List X) → map f (take n (drop from xs)) ≡ take n (drop from (map f xs))

@@ -1,5 +1,5 @@
 -- Places of order numbers in a list, and what stands of ranked orders.
-use Rattle.std.proofs.Common.{◌≡◌, ℕ, ◌+◌, ◌<◌, Bool, true, false, cond, eqb, List, [], ◌∷◌, ◌++◌, map, length, get_or, take, drop, set, Some, None, Option, sym, refl, ap, ◌∙◌, subst, arith}
+use Rattle.std.proofs.Common.{◌≡◌, ℕ, ◌+◌, ◌<◌, true, false, eqb, List, [], ◌∷◌, ◌++◌, map, length, get_or, take, drop, set, Some, None, Option, sym, refl, ap, ◌∙◌, arith}
 use Rattle.std.proofs.lemmas.List.{at_drop_more, map_push, map_more, take_more_set}
 use Rattle.std.proofs.lemmas.Bool.{cond-true, cond-false}
 use Rattle.market.specs.Words.{standing}
@@ -7,7 +7,6 @@ use Rattle.market.specs.declared.order.Order.{Order}
 use Rattle.market.specs.declared.units.Contracts.{Contracts}
 use Rattle.rules.specs.Allocation.{place_of, next_place}
 use Rattle.sharing.specs.Asked.{counts}
-use Rattle.order_table.specs.Blank.{no_order}
 use Rattle.matching.specs.Places.{at, orders_at}
 use Rattle.matching.specs.declared.priority.Ranked.{Ranked}
 use Rattle.matching.proofs.Sorting.{no_rank}

@@ -10,7 +10,7 @@ use Rattle.market.specs.declared.order.Order.{Order}
 use Rattle.market.specs.declared.order.Side.{Side}
 use Rattle.market.specs.declared.order.Side.TheVariants.{Buy, Sell}
 use Rattle.rules.specs.Allocation.{after_trade, by_priority, live}
-use Rattle.rules.specs.Opening.{filled, opened_orders, opening_fill, opening_trade}
+use Rattle.rules.specs.Opening.{filled, opened_orders, opening_fill}
 use Rattle.order_table.specs.Changes.{limited_at}
 use Rattle.rules.specs.Volume.{matched_volume, of_order}
 use Rattle.rules.proofs.Matching.{all_from_kept}

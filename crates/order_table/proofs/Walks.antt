@@ -1,10 +1,10 @@
 -- Walks over a list of orders by a test.
-use Rattle.std.proofs.Common.{◌≡◌, ℕ, zero, suc, ◌+◌, ◌-◌, ◌*◌, ◌<◌, ◌≤◌, min, Bool, true, false, cond, List, [], ◌∷◌, ◌++◌, map, length, get_or, take, drop, set, sum_by, count_by, filter, sym, refl, ap, ◌∙◌, subst, arith, length-take}
+use Rattle.std.proofs.Common.{◌≡◌, ℕ, ◌+◌, ◌*◌, ◌<◌, ◌≤◌, Bool, true, false, List, [], ◌∷◌, ◌++◌, length, get_or, take, set, sum_by, filter, ap, arith, length-take}
 use Rattle.std.specs.List.{AllByRecursion}
-use Rattle.std.proofs.lemmas.List.Elements.{filter_more, filter-append}
+use Rattle.std.proofs.lemmas.List.Elements.{filter_more}
 use Rattle.std.proofs.ByRecursion.{All-take, all_kept_by, sum_by_le}
-use Rattle.std.proofs.lemmas.List.{append-nil, append_assoc, length_push, length-set, take_all, take_more_set, map_more, take_more}
-use Rattle.std.proofs.lemmas.List.Sums.{length-filter, sum_by-append, count_by-le-length, sum_by_more}
+use Rattle.std.proofs.lemmas.List.{append-nil, length_push, take_all, take_more_set}
+use Rattle.std.proofs.lemmas.List.Sums.{length-filter, sum_by-append, count_by-le-length}
 use Rattle.std.proofs.lemmas.Bool.{cond-true, cond-false}
 use Rattle.market.specs.declared.order.Order.{Order}
 use Rattle.market.specs.Words.{standing}

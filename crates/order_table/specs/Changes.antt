@@ -1,5 +1,5 @@
 -- What a change of the table does to its live records.
-use Rattle.std.specs.Prelude.{◌≡◌, ℕ, ◌+◌, min, Bool, true, cond, ◌&&◌, List, [], ◌∷◌, ◌++◌, map, count_by, ◌==◌, nat_le, nat_lt, slice_index}
+use Rattle.std.specs.Prelude.{◌≡◌, ℕ, ◌+◌, min, Bool, cond, ◌&&◌, List, [], ◌∷◌, ◌++◌, map, count_by, ◌==◌, nat_le, nat_lt, slice_index}
 use Rattle.market.specs.Words.{standing, limit_at}
 use Rattle.market.specs.declared.order.Order.{Order}
 use Rattle.market.specs.declared.order.OrderKind.TheVariants.{Limit, MarketOnOpening}

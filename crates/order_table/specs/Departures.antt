@@ -1,5 +1,5 @@
 -- The rows of orders that leave without a trade.
-use Rattle.std.specs.Prelude.{◌≡◌, ℕ, List, [], ◌∷◌, ◌++◌, map, length, drop, Result, MatchResult, nat_lt}
+use Rattle.std.specs.Prelude.{◌≡◌, ℕ, List, [], ◌∷◌, ◌++◌, length, drop, Result, MatchResult, nat_lt}
 use Rattle.market.specs.Refusals.{refused_by, first_hit}
 use Rattle.market.specs.declared.order.Order.{Order}
 use Rattle.market.specs.declared.refusal.Refusal.{Refusal}

@@ -1,5 +1,5 @@
 -- What each filter keeps.
-use Rattle.std.specs.Prelude.{ℕ, Bool, not, ◌&&◌, ◌||◌, ◌==◌}
+use Rattle.std.specs.Prelude.{Bool, not, ◌&&◌, ◌||◌, ◌==◌}
 use Rattle.market.specs.Words.{same_side, other, in_book, auctioned, price_of}
 use Rattle.market.specs.declared.order.Order.{Order}
 use Rattle.rules.specs.Prices.{within}

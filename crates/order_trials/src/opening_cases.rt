@@ -1,11 +1,11 @@
 // Openings: the theoretical price, the rows and what is left.
 use crate::tables::{BLANK_ROW, MOO, add, cents, check_rows, close_at, limit, trade};
-use order_table::select::Filter;
-use order_table::table::Table;
 use discovery::opening_price::{demand, supply, top};
 use market::order::Side;
 use market::refusal::Refusal;
 use matching::opening::open_at;
+use order_table::select::Filter;
+use order_table::table::Table;
 use sharing::time::TimeWithGuarantee;
 use std::test::*;
 

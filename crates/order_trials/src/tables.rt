@@ -1,9 +1,9 @@
 // Tables and rows to test with.
-use order_table::table::Table;
 use market::close::Close;
 use market::order::{Account, Order, OrderKind, Role, Side};
 use market::row::{Row, RowKind};
 use market::units::{Cents, Contracts};
+use order_table::table::Table;
 use std::process::Abort;
 use std::test::*;
 

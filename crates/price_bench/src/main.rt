@@ -1,11 +1,11 @@
 // Prints the opening prices of random books. With a number of rounds it also times the search for them.
 #![tactic(auto)]
 
-use order_table::table::Table;
 use discovery::opening_price::top;
 use market::close::Close;
 use market::order::{Account, Order, OrderKind, Role, Side};
 use market::units::{Cents, Contracts};
+use order_table::table::Table;
 use std::time::Instant;
 use std::{env, io};
 

@@ -1,5 +1,5 @@
 -- A day given as data, in the words of the rules.
-use Rattle.std.specs.Prelude.{◌≡◌, ℕ, List, [], ◌∷◌, map, take, replicate, Some, None, Option}
+use Rattle.std.specs.Prelude.{◌≡◌, ℕ, List, [], ◌∷◌, map, take, replicate}
 use Rattle.market.specs.declared.row.Row.{Row}
 use Rattle.market.specs.declared.row.RowKind.TheVariants.{Withdrawn}
 use Rattle.rules.specs.Calls as calls
@@ -17,7 +17,6 @@ use Rattle.series.specs.declared.day.HandedBack.TheVariants.{Nothing, PreOpening
 use Rattle.series.specs.declared.day.JournalEntry.{JournalEntry}
 use Rattle.series.specs.declared.day.NewNumbers.{NewNumbers}
 use Rattle.series.specs.declared.day.NewNumbers.TheVariants.{None as NoNumbers, One, Two}
-use Rattle.series.specs.declared.day.Outcome.{Outcome}
 use Rattle.series.specs.declared.day.ShownTicket.{ShownTicket}
 
 -- memory as it is lent

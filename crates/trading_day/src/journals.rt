@@ -57,11 +57,7 @@ pub fn trade(buyer: u16, seller: u16, price: u32, count: u32) -> Row {
 }
 
 // The rows of the last call of a day, and the memory behind them.
-pub fn check_last(
-    rt: &impl Abort,
-    journal: &[JournalEntry],
-    expected: &[Row],
-) -> Result<(), Fail> {
+pub fn check_last(rt: &impl Abort, journal: &[JournalEntry], expected: &[Row]) -> Result<(), Fail> {
     let Some(entry) = journal.last() else {
         return Err(Fail::new("the journal is empty"));
     };

@@ -1,7 +1,6 @@
-use Rattle.std.proofs.Common.{◌≤◌, List, ap, ◌∙◌, arith}
+use Rattle.std.proofs.Common.{◌≤◌, ap, ◌∙◌, arith}
 use Rattle.std.proofs.lemmas.Bool.{and_parts, leb-true}
 use Rattle.market.specs.declared.close.Close.{Close}
-use Rattle.market.specs.declared.order.Order.{Order}
 use Rattle.market.specs.declared.order.Side.TheVariants.{Buy, Sell}
 use Rattle.rules.specs.Opening as openings
 use Rattle.order_table.proofs.Records.{live_prices, live_small}

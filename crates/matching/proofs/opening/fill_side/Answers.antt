@@ -1,11 +1,8 @@
-use Rattle.std.proofs.Common.{◌≡◌, ℕ, ◌-◌, ◌<◌, ◌≤◌, Bool, List, map, length, take, drop, None, filter, sym, ap, ◌∙◌, subst, arith, rules}
+use Rattle.std.proofs.Common.{◌≡◌, ◌-◌, ◌<◌, map, length, take, drop, None, filter, sym, ap, ◌∙◌, subst, arith, rules}
 use Rattle.std.specs.List.{AllByRecursion}
-use Rattle.std.proofs.lemmas.List.{length-drop, length-take}
-use Rattle.market.specs.declared.order.Order.{Order}
 use Rattle.rules.specs.Allocation.{by_priority, fill}
 use Rattle.rules.specs.Opening.{opening_fill}
 use Rattle.sharing.specs.Asked.{counts}
-use Rattle.sharing.proofs.Counts.{length_counts}
 use Rattle.matching.specs.Places.{orders_at}
 use Rattle.matching.specs.Matching.{numbered_fills, wills}
 use Rattle.matching.specs.Pairing.{filled_pair}

@@ -1,4 +1,4 @@
-use Rattle.std.proofs.Common.{◌≡◌, ℕ, ◌-◌, ◌≤◌, leb, List, ◌++◌, map, length, take, drop, None, filter, sym, ap, ◌∙◌, arith, rules}
+use Rattle.std.proofs.Common.{◌≡◌, ◌-◌, ◌≤◌, leb, List, ◌++◌, map, length, take, drop, None, filter, sym, ap, ◌∙◌, arith, rules}
 use Rattle.std.proofs.lemmas.Bool.{cond-true, le-leb}
 use Rattle.market.specs.Refusals.{first_hit}
 use Rattle.market.specs.declared.order.Order.{Order}

@@ -1,10 +1,7 @@
-use Rattle.std.proofs.Common.{◌≡◌, ℕ, ◌-◌, ◌≤◌, List, ◌++◌, map, length, get_or, take, drop, filter, sym, ap, ◌∙◌, subst, arith}
-use Rattle.std.proofs.lemmas.List.{length-map, length-take, take_at}
-use Rattle.market.specs.declared.order.Side.{Side}
+use Rattle.std.proofs.Common.{◌≡◌, ◌-◌, ◌++◌, map, length, take, drop, filter, sym, ap, ◌∙◌, arith}
+use Rattle.std.proofs.lemmas.List.{length-map}
 use Rattle.market.specs.declared.order.Side.TheVariants.{Buy, Sell}
 use Rattle.rules.specs.Opening.{filled, intervals, opening_fill, paired, opening_rows}
-use Rattle.rules.specs.Volume.{matched_volume, of_order}
-use Rattle.sharing.specs.Asked.{counts}
 use Rattle.matching.specs.Matching.{wills}
 use Rattle.matching.specs.Pairing.{filled_pair, pairing_rows}
 use Rattle.matching.specs.Scattering.{filled_places}

@@ -1,17 +1,10 @@
-use Rattle.std.proofs.Common.{◌≡◌, ℕ, ◌-◌, ◌<◌, ◌≤◌, min, Bool, List, ◌++◌, map, length, take, drop, sum_by, filter, sym, ap, ◌∙◌, subst, arith, rules}
+use Rattle.std.proofs.Common.{◌≡◌, ℕ, ◌-◌, ◌<◌, ◌++◌, map, length, take, drop, filter, sym, ap, ◌∙◌, subst, arith, rules}
 use Rattle.std.specs.List.{AllByRecursion}
-use Rattle.std.proofs.ByRecursion.{all_kept_by}
-use Rattle.std.proofs.lemmas.List.{length-drop, length-map, length-take, take_all}
-use Rattle.market.specs.Words.{standing}
 use Rattle.market.specs.declared.order.Order.{Order}
-use Rattle.market.specs.declared.units.Contracts.{Contracts}
 use Rattle.rules.specs.Allocation.{by_priority, fill}
 use Rattle.sharing.specs.Asked.{counts}
 use Rattle.order_table.specs.Filters.{passes}
-use Rattle.matching.specs.Places.{at, orders_at}
 use Rattle.matching.specs.Ranking.{by_rank, ranked_from}
-use Rattle.order_table.specs.Records.{Live}
-use Rattle.matching.specs.Rows.{trade_rows}
 use Rattle.matching.specs.Scattering.{scattered}
 use Rattle.matching.specs.declared.priority.Ranked.{Ranked}
 use Rattle.order_table.proofs.Records.{live_small, rising_from}

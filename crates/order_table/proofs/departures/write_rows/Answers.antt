@@ -1,13 +1,12 @@
-use Rattle.std.proofs.Common.{◌≡◌, ◌+◌, ◌<◌, List, [], ◌∷◌, map, length, get_or, filter, sym, ap, ◌∙◌, arith}
+use Rattle.std.proofs.Common.{◌≡◌, ◌+◌, [], ◌∷◌, map, get_or, filter, sym, ap, ◌∙◌, arith}
 use lib.ListN.{length-map}
 use Rattle.std.proofs.lemmas.List.Sums.{length-filter}
-use Rattle.market.specs.declared.order.Order.{Order}
 use Rattle.market.specs.declared.row.Row.{Row}
 use Rattle.order_table.specs.Blank.{no_order}
 use Rattle.order_table.specs.Departures.{departure_row}
 use Rattle.order_table.specs.Filters.{passes}
 use Rattle.order_table.proofs.Departing.{rows_from, rows_some, rows_none, rows_end}
-use Rattle.order_table.proofs.Writing.{Writing, writing_same, writing_room, writing_one, writing_all}
+use Rattle.order_table.proofs.Writing.{writing_same, writing_room, writing_one, writing_all}
 use Rattle.order_table.proofs.departures.write_rows.Goals as goal
 use Rattle.order_table.proofs.departures.write_rows.Goals.{then-passes, else-passes}
 

@@ -2,7 +2,6 @@ use Rattle.std.proofs.Common.{◌+◌, sum_by, filter, sym, ap, ◌∙◌, arith
 use Rattle.std.proofs.lemmas.List.{take_all}
 use Rattle.market.specs.Words.{standing}
 use Rattle.order_table.specs.Filters.{passes}
-use Rattle.order_table.specs.Blank.{no_order}
 use Rattle.order_table.proofs.Walks.{kept_sum_yes, kept_sum_no, kept_sum_small}
 use Rattle.order_table.proofs.select.volume.Goals as goal
 use Rattle.order_table.proofs.select.volume.Goals.{then-passes, else-passes}

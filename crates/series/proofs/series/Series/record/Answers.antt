@@ -1,8 +1,7 @@
-use Rattle.std.proofs.Common.{◌≡◌, ℕ, ◌-◌, min, List, ◌++◌, length, take, sym, refl, ap, ◌∙◌, arith}
+use Rattle.std.proofs.Common.{◌≡◌, ℕ, ◌-◌, min, ◌++◌, length, take, sym, refl, ap, ◌∙◌, arith}
 use native.Mathlib.Nat.{sub-zero}
 use borrow.Rule.Slice.PartMut.{mid_len, post_of, same_len_mid}
-use Rattle.market.specs.declared.row.Row.{Row}
-use Rattle.series.specs.Days.{answer_of, call_of, event_of, handed_of, lent_to, unused}
+use Rattle.series.specs.Days.{answer_of, call_of, event_of, handed_of, lent_to}
 use Rattle.series.specs.State.{state}
 use Rattle.series.proofs.Replaying.{event_is, lent_back, lent_is, lent_part, unused_long}
 use Rattle.series.proofs.series.Series.record.Goals as goal

@@ -2,7 +2,7 @@ use Rattle.std.proofs.Common.{◌≡◌, ℕ, ◌+◌, ◌<◌, cond, List, [], 
 use Rattle.std.proofs.lemmas.List.{append_assoc}
 use Rattle.std.proofs.lemmas.List.Sums.{sum_by-append}
 use Rattle.std.proofs.lemmas.Bool.{lt-ltb}
-use Rattle.market.specs.Words.{other, limit_at}
+use Rattle.market.specs.Words.{limit_at}
 use Rattle.market.specs.declared.order.Account.TheVariants.{Customer, MarketMaker}
 use Rattle.market.specs.declared.order.Order.{Order}
 use Rattle.market.specs.declared.order.Role.TheVariants.{Auctioned, Starter}
