@@ -12,6 +12,7 @@ import sys
 DECLARED = re.compile(
     r"^\s*(?:unfoldable )?(?:abbrev )?(?:pub )?(?:unfoldable )?(?:abbrev )?(record |data )?([^\s(){}:;,.|]+)"
     r"((?: *\([^)]*\)| *\{[^}]*\})*)\s*:\s")
+RECORD = re.compile(r"^\s*(?:pub )?(?:record|data) ([^\s(){}:;,.|]+)")
 TOKEN = re.compile(r"[^\s(){}\[\];,.:\"@|`]+")
 # Facts that had a lower-case name.
 FACTS = {"at-least-as-good": "AtLeastAsGood"}
@@ -27,6 +28,9 @@ def declared_names():
         for line in open(f):
             if line.lstrip().startswith(("--", "use ", "ghost use ")):
                 continue
+            m = RECORD.match(line)
+            if m and "-" in m.group(1):
+                names.add(m.group(1))
             m = DECLARED.match(line)
             if not m:
                 continue

@@ -22,7 +22,7 @@ use Rattle.market.specs.declared.units.Contracts.{Contracts}
 use Rattle.market.specs.declared.units.Millis.{Millis}
 use Rattle.rules.specs.Allocation.{after_trade, fill, live, taker_rows}
 use Rattle.rules.specs.Calls.{Effect, Ticket, checks, effect, effect_of, enter, finish, finished, new_order, opened, opening, remainder, without}
-use Rattle.rules.specs.Law.{AtPrice, BestAuction, BestEntry, Best-opening, BestTrades, Choice, CustomerOf, Outdone, Rising, WillingAt, allowed, AtLeastAsGood, chosen_contracts, chosen_total, surplus_at, taker, volume_at}
+use Rattle.rules.specs.Law.{AtPrice, BestAuction, BestEntry, BestOpening, BestTrades, Choice, CustomerOf, Outdone, Rising, WillingAt, allowed, AtLeastAsGood, chosen_contracts, chosen_total, surplus_at, taker, volume_at}
 use Rattle.rules.specs.Ledger.{Entry, Ledger, balance, contracts_in, named, of_entry, stands, t_rows, total_of}
 use Rattle.rules.specs.Opening.{opening_rows, top}
 use Rattle.rules.specs.Prices.{away_best, bound, distance, reaches, within}
@@ -262,7 +262,7 @@ module _ (rule : Sharing) (facts : Facts rule) (close : ℕ) (st : State) (h : L
         let b = all-has (λ o. (b : Entry) × Has h.orders b × Agrees st.trading h.opened_at b o) st.orders o (matched_entry s.matched) has in
         (b.0, b.1, sym b.2.number ∙ e, willing_is d p b.0 o b.2 ∙ w)
 
-    opening_fair_at : (y : Option (ℕ × ℕ)) → top st.orders st.close ≡ y → Best-opening st.close h y (elim y [ Some x ↦ opening_rows rule st.orders x.0 | None ↦ [] ])
+    opening_fair_at : (y : Option (ℕ × ℕ)) → top st.orders st.close ≡ y → BestOpening st.close h y (elim y [ Some x ↦ opening_rows rule st.orders x.0 | None ↦ [] ])
     opening_fair_at (Some x) is =
         let rows : List Row = opening_rows rule st.orders x.0 in
         let all = facts.opening_rows_of st.orders x.0 in
@@ -292,7 +292,7 @@ module _ (rule : Sharing) (facts : Facts rule) (close : ℕ) (st : State) (h : L
       sellers_willing = tt;
     }
 
-  pub opening_fair : (pass : ℕ) (t : Millis) (w : Bool) (memory : List Row) → first_hit (checks st (opening pass t w memory)) ≡ None → Best-opening close h (top st.orders st.close) (effect rule st (opening pass t w memory)).rows
+  pub opening_fair : (pass : ℕ) (t : Millis) (w : Bool) (memory : List Row) → first_hit (checks st (opening pass t w memory)) ≡ None → BestOpening close h (top st.orders st.close) (effect rule st (opening pass t w memory)).rows
   opening_fair pass t w memory e =
-      subst (λ c. Best-opening c h (top st.orders st.close) (effect rule st (opening pass t w memory)).rows) s.closes
+      subst (λ c. BestOpening c h (top st.orders st.close) (effect rule st (opening pass t w memory)).rows) s.closes
       (opening_fair_at (opening_before rule facts close st h s pass t w memory e) (top st.orders st.close) refl)

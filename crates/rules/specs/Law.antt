@@ -52,7 +52,7 @@ Announced h (Some x) = (on_grid x.0 ≡ true) × (x.1 ≡ volume_at h x.0) × (0
 Announced h None = Unit {0}
 
 -- no grid price would have opened better, and the T rows are that opening
-pub record Best-opening (close : ℕ) (h : Ledger) (opens : Option (ℕ × ℕ)) (rows : List Row) : Type 0 where
+pub record BestOpening (close : ℕ) (h : Ledger) (opens : Option (ℕ × ℕ)) (rows : List Row) : Type 0 where
   pub announced : Announced h opens
   pub never_outdone : (q : ℕ) → on_grid q ≡ true → Outdone h close q opens → ⊥
   pub all_of_it : contracts_in (t_rows rows) ≡ opening_volume h opens
@@ -120,7 +120,7 @@ abbrev pub Fair : ℕ → Ledger → Call → List ℕ → Option (ℕ × ℕ) �
 Fair close h (place pass t m s a k n) ns opens rows = Unit {0}
 Fair close h (withdraw t m n memory) ns opens rows = Unit {0}
 Fair close h (away t k b o) ns opens rows = Unit {0}
-Fair close h (opening pass t w memory) ns opens rows = Best-opening close h opens rows
+Fair close h (opening pass t w memory) ns opens rows = BestOpening close h opens rows
 Fair close h (enter pass t m s a p n memory) ns opens rows =
     BestEntry (number_at 0 ns) s n.count (bound s p.value (away_best s h.quotes)) h (t_rows rows)
 Fair close h (clock t memory) ns opens rows = Unit {0}
