@@ -1,30 +1,32 @@
 -- What the ladders say of demand and supply, and that the candidates have the opening price among them.
-use Rattle.std.proofs.Common.{◌≡◌, ℕ, ◌+◌, ◌<◌, ◌≤◌, Bool, true, false, cond, ◌&&◌, ltb, leb, List, [], ◌∷◌, ◌++◌, Some, None, fold, sym, refl, ap, ◌∙◌, subst, ⊎_elim, arith}
-use Rattle.std.specs.List.{ContainsAt as Has, AllByRecursion}
+use Rattle.std.proofs.Common.{◌≡◌, ℕ, ◌+◌, ◌<◌, ◌≤◌, Bool, true, false, cond, ◌&&◌, eqb, ltb, ◌⊎◌, List, [], ◌∷◌, ◌++◌, Option, Some, None, fold, sym, refl, ap, ◌∙◌, subst, inl, inr, ⊎_elim, arith}
+use Rattle.std.specs.List.{ContainsAt as Has}
 use Rattle.std.proofs.ByRecursion.{has_append_left, has_append_right}
 use Rattle.std.proofs.lemmas.List.Sums.{sum_by-cons}
-use Rattle.std.proofs.lemmas.Bool.{cond-true, cond-false, lt-ltb, le-ltb}
+use Rattle.std.specs.Option.{option_eq}
+use Rattle.std.proofs.lemmas.Bool.{both_ways, cond-true, cond-false, eqb-true, lt-ltb, le-ltb}
 use Rattle.std.proofs.lemmas.Bool.Decides.{nat_tests}
 use Rattle.market.specs.declared.order.Order.{Order}
 use Rattle.market.specs.declared.order.OrderKind.{OrderKind}
 use Rattle.market.specs.declared.order.OrderKind.TheVariants.{Limit, MarketOnOpening}
 use Rattle.market.specs.declared.order.Side.{Side}
 use Rattle.market.specs.declared.order.Side.TheVariants.{Buy, Sell}
-use Rattle.market.specs.Words.{standing, same_side, limit_of, price_of}
+use Rattle.market.specs.Words.{standing, same_side, limit_of}
 use Rattle.rules.specs.Opening.{best_price, top}
 use Rattle.rules.specs.Volume.{willing_at, willing, volume, demand, supply, matched_volume, of_order}
 use Rattle.rules.proofs.Tally.{sum_kept}
-use Rattle.rules.proofs.Matching.{has_cons}
 use Rattle.book.specs.declared.ladder.Ladder.{Ladder}
 use Rattle.book.specs.declared.ladder.Step.{Step}
-use Rattle.book.specs.declared.opening_price.Candidate.{Candidate}
-use Rattle.book.specs.declared.opening_price.Opening.{Opening}
-use Rattle.book.specs.Candidates.{around, better_by, traded_at}
-use Rattle.book.specs.Rungs.{inserted, with_step, steps_of, market_part, market_of, total, lower, rungs, Laid}
-use Rattle.book.specs.Search.{Rated, around_steps, better_on, candidates, offered_on, wanted_on}
+use Rattle.book.specs.declared.opening_price.search.Candidate.{Candidate}
+use Rattle.book.specs.declared.opening_price.search.Opening.{Opening}
+use Rattle.book.specs.Candidates.{around, beside, better_by, traded_at}
+use Rattle.book.specs.Steps.{inserted, total, lower}
+use Rattle.book.specs.Rungs.{with_step, steps_of, market_part, market_of, rungs, Laid}
+use Rattle.book.specs.Rating.{Rated, better_on, offered_on, wanted_on}
+use Rattle.book.specs.Search.{beside_steps, candidates}
 use Rattle.book.proofs.Candidates.{best_around, search_finds}
-use Rattle.book.proofs.Laying.{all_insert, sum_insert}
-use Rattle.book.proofs.Listed.{has_cases, has_here, has_joined, has_none}
+use Rattle.book.proofs.Inserted.{has_inserted, has_others, sum_inserted}
+use Rattle.book.proofs.Listed.{has_cases, has_none}
 
 -- ---- sums over a ladder, order by order
 
@@ -43,12 +45,12 @@ lower_with : (b : Bool) (k : OrderKind) (n q : ℕ) (xs : List Step) → lower (
 lower_with true (Limit l) n q xs =
     let s : Step = record { price = l.value; volume = n } in
     let f : Step → ℕ = λ x. cond (ltb x.price q) x.volume 0 in
-    omega (arith, sum_kept (λ x. x.volume) (λ x. ltb x.price q) (inserted s xs), sum_insert f s xs, sum_kept (λ x. x.volume) (λ x. ltb x.price q) xs)
+    omega (arith, sum_kept (λ x. x.volume) (λ x. ltb x.price q) (inserted s xs), sum_inserted (λ (x : Step). x.price) s xs f, sum_kept (λ x. x.volume) (λ x. ltb x.price q) xs)
 lower_with true MarketOnOpening n q xs = omega arith
 lower_with false k n q xs = omega arith
 
 total_with : (b : Bool) (k : OrderKind) (n : ℕ) (xs : List Step) → total (with_step b k n xs) ≡ total_part b k n + total xs
-total_with true (Limit l) n xs = sum_insert (λ x. x.volume) (record { price = l.value; volume = n }) xs
+total_with true (Limit l) n xs = sum_inserted (λ (x : Step). x.price) (record { price = l.value; volume = n }) xs (λ x. x.volume)
 total_with true MarketOnOpening n xs = omega arith
 total_with false k n xs = omega arith
 
@@ -100,36 +102,8 @@ offered_is os l h q = omega (arith, sells_laid os q, h.market, ap (λ (xs : List
 
 -- ---- the limits of the orders are the prices of the steps
 
-all_with : (P : ℕ → Type 0) (b : Bool) (k : OrderKind) (n : ℕ) (xs : List Step) → P (price_of k) → AllByRecursion (λ (s : Step). P s.price) xs → AllByRecursion (λ (s : Step). P s.price) (with_step b k n xs)
-all_with P true (Limit l) n xs p h = all_insert (λ s. P s.price) (record { price = l.value; volume = n }) xs p h
-all_with P true MarketOnOpening n xs p h = h
-all_with P false k n xs p h = h
-
-steps_span : (s : Side) (os : List Order) → AllByRecursion (λ o. price_of o.kind ≤ 99999) os → AllByRecursion (λ x. x.price ≤ 99999) (steps_of s os)
-steps_span s [] h = tt
-steps_span s (o ∷ os) h = all_with (λ p. p ≤ 99999) (same_side o.side s) o.kind (standing o) (steps_of s os) h.0 (steps_span s os h.1)
-
-pub laid_span : (s : Side) (os : List Order) (l : Ladder) → Laid s os l → AllByRecursion (λ o. price_of o.kind ≤ 99999) os → AllByRecursion (λ x. x.price ≤ 99999) (rungs l)
-laid_span s os l h k = subst (AllByRecursion (λ x. x.price ≤ 99999)) (sym h.steps) (steps_span s os k)
-
-has_inserted : (s : Step) (xs : List Step) → Has (inserted s xs) s
-has_inserted s [] = has_here s [] s refl
-has_inserted s (x ∷ xs) = go (leb s.price x.price) (has_inserted s xs)
-  where
-    go : (b : Bool) → Has (inserted s xs) s → Has (cond b (s ∷ x ∷ xs) (x ∷ inserted s xs)) s
-    go true ih = has_here s (x ∷ xs) s refl
-    go false ih = has_cons x (inserted s xs) s ih
-
-has_others : (s : Step) (xs : List Step) (y : Step) → Has xs y → Has (inserted s xs) y
-has_others s [] y h = has_none y h
-has_others s (x ∷ xs) y h = go (leb s.price x.price) (has_others s xs y)
-  where
-    go : (b : Bool) → (Has xs y → Has (inserted s xs) y) → Has (cond b (s ∷ x ∷ xs) (x ∷ inserted s xs)) y
-    go true ih = has_cons s (x ∷ xs) y h
-    go false ih = ⊎_elim (λ e. has_here x (inserted s xs) y e) (λ r. has_cons x (inserted s xs) y (ih r)) (has_cases x xs y h)
-
 has_with : (b : Bool) (k : OrderKind) (n : ℕ) (xs : List Step) (y : Step) → Has xs y → Has (with_step b k n xs) y
-has_with true (Limit l) n xs y h = has_others (record { price = l.value; volume = n }) xs y h
+has_with true (Limit l) n xs y h = has_others (λ (x : Step). x.price) (record { price = l.value; volume = n }) xs y h
 has_with true MarketOnOpening n xs y h = h
 has_with false k n xs y h = h
 
@@ -137,7 +111,7 @@ abbrev StepAt : List Step → ℕ → Type 0
 StepAt xs p = (s : Step) × Has xs s × (s.price ≡ p)
 
 own_step : (b : Bool) (k : OrderKind) (n : ℕ) (xs : List Step) (p : ℕ) → b ≡ true → limit_of k ≡ Some p → StepAt (with_step b k n xs) p
-own_step true (Limit l) n xs p t e = let s : Step = record { price = l.value; volume = n } in let f : l.value ≡ p = cc in (s, has_inserted s xs, f)
+own_step true (Limit l) n xs p t e = let s : Step = record { price = l.value; volume = n } in let f : l.value ≡ p = cc in (s, has_inserted (λ (x : Step). x.price) s xs, f)
 own_step true MarketOnOpening n xs p t e = let z : ◌≡◌ {A = ℕ} 0 1 = cc in absurd (omega arith)
 own_step false k n xs p t e = let z : ◌≡◌ {A = ℕ} 0 1 = cc in absurd (omega arith)
 
@@ -148,26 +122,52 @@ step_at s (x ∷ os) o p t e h = ⊎_elim
     (λ r. let q = step_at s os o p t e r in (q.0, has_with (same_side x.side s) x.kind (standing x) (steps_of s os) q.0 q.1, q.2))
     (has_cases x os o h)
 
-around_has : (s : Side) (os : List Order) (l : Ladder) (o : Order) (p best : ℕ) → Laid s os l → same_side o.side s ≡ true → limit_of o.kind ≡ Some p → Has os o → Has (around p) best → Has (around_steps (rungs l)) best
-around_has s os l o p best laid t e h k =
+-- the grid prices beside the last limit, if there is one
+abbrev beside_last : Side → Option ℕ → List ℕ
+beside_last side None = []
+beside_last side (Some l) = beside side l
+
+-- what lies beside a limit is among what is tried beside the limits, or beside the last one
+beside_among : (side : Side) (last : Option ℕ) (xs : List Step) (s : Step) (q : ℕ) → Has xs s → Has (beside side s.price) q → Has (beside_last side last) q ⊎ Has (beside_steps side last xs) q
+beside_among side last [] s q h k = has_none s h
+beside_among side last (x ∷ xs) s q h k = go (λ p r. beside_among side p xs s q r k) last (option_eq eqb last (Some x.price)) refl
+  where
+    rest : Option ℕ → List ℕ
+    rest p = beside_steps side p xs
+
+    at_last : (last : Option ℕ) → option_eq eqb last (Some x.price) ≡ true → x ≡ s → Has (beside_last side last) q
+    at_last None e is = absurd (both_ways false refl e)
+    at_last (Some l) e is = subst (λ p. Has (beside side p) q) (sym (ap (λ (y : Step). y.price) is) ∙ sym (eqb-true l x.price e)) k
+
+    go : ((p : Option ℕ) → Has xs s → Has (beside_last side p) q ⊎ Has (rest p) q) → (last : Option ℕ) (b : Bool) → option_eq eqb last (Some x.price) ≡ b →
+        Has (beside_last side last) q ⊎ Has (cond b (rest last) (beside side x.price ++ rest (Some x.price))) q
+    go later last true e = ⊎_elim (λ is. inl (at_last last e is)) (λ r. later last r) (has_cases x xs s h)
+    go later last false e = inr (⊎_elim
+        (λ (is : x ≡ s). has_append_left (beside side x.price) (rest (Some x.price)) q (subst (λ p. Has (beside side p) q) (sym (ap (λ (y : Step). y.price) is)) k))
+        (λ r. ⊎_elim (λ b. has_append_left (beside side x.price) (rest (Some x.price)) q b) (λ m. has_append_right (beside side x.price) (rest (Some x.price)) q m) (later (Some x.price) r))
+        (has_cases x xs s h))
+
+beside_has : (s : Side) (os : List Order) (l : Ladder) (o : Order) (p best : ℕ) → Laid s os l → same_side o.side s ≡ true → limit_of o.kind ≡ Some p → Has os o → Has (beside s p) best → Has (beside_steps s None (rungs l)) best
+beside_has s os l o p best laid t e h k =
     let q = step_at s os o p t e h in
-    has_joined (λ (x : Step). around x.price) (rungs l) q.0 best (subst (λ (xs : List Step). Has xs q.0) (sym laid.steps) q.1) (subst (λ n. Has (around n) best) (sym q.2) k)
+    ⊎_elim (λ none. has_none best none) (λ m. m)
+    (beside_among s None (rungs l) q.0 best (subst (λ (xs : List Step). Has xs q.0) (sym laid.steps) q.1) (subst (λ n. Has (beside s n) best) (sym q.2) k))
 
 -- ---- the search finds the opening price
 
-module _ (os : List Order) (i : Opening) (buys : Laid Buy os i.buys) (sells : Laid Sell os i.sells) (span : i.close ≤ 99999) where
+module _ (os : List Order) (i : Opening) (buys : Laid Buy os i.buys) (sells : Laid Sell os i.sells) where
   abbrev best : ℕ
-  best = best_price os i.close
+  best = best_price os i.close.value
 
-  limits_have : (o : Order) (p : ℕ) (s : Side) → o.side ≡ s → Has os o → limit_of o.kind ≡ Some p → Has (around p) best → Has (around_steps (rungs i.buys) ++ around_steps (rungs i.sells)) best
-  limits_have o p Buy e h l k = has_append_left (around_steps (rungs i.buys)) (around_steps (rungs i.sells)) best (around_has Buy os i.buys o p best buys (ap (λ s. same_side s Buy) e) l h k)
-  limits_have o p Sell e h l k = has_append_right (around_steps (rungs i.buys)) (around_steps (rungs i.sells)) best (around_has Sell os i.sells o p best sells (ap (λ s. same_side s Sell) e) l h k)
+  limits_have : (o : Order) (p : ℕ) (s : Side) → o.side ≡ s → Has os o → limit_of o.kind ≡ Some p → Has (beside s p) best → Has (beside_steps Buy None (rungs i.buys) ++ beside_steps Sell None (rungs i.sells)) best
+  limits_have o p Buy e h l k = has_append_left (beside_steps Buy None (rungs i.buys)) (beside_steps Sell None (rungs i.sells)) best (beside_has Buy os i.buys o p best buys (ap (λ s. same_side s Buy) e) l h k)
+  limits_have o p Sell e h l k = has_append_right (beside_steps Buy None (rungs i.buys)) (beside_steps Sell None (rungs i.sells)) best (beside_has Sell os i.sells o p best sells (ap (λ s. same_side s Sell) e) l h k)
 
   candidates_have : Has (candidates i) best
   candidates_have = ⊎_elim
-      (λ h. has_append_left (around i.close) (around_steps (rungs i.buys) ++ around_steps (rungs i.sells)) best h)
-      (λ h. has_append_right (around i.close) (around_steps (rungs i.buys) ++ around_steps (rungs i.sells)) best (limits_have h.0 h.2.0 h.0.side refl h.1 h.2.1 h.2.2))
-      (best_around os i.close span)
+      (λ h. has_append_left (around i.close.value) (beside_steps Buy None (rungs i.buys) ++ beside_steps Sell None (rungs i.sells)) best h)
+      (λ h. has_append_right (around i.close.value) (beside_steps Buy None (rungs i.buys) ++ beside_steps Sell None (rungs i.sells)) best (limits_have h.0 h.2.0 h.0.side refl h.1 h.2.1 h.2.2))
+      (best_around os i.close.value i.close.span)
 
   -- what the ladders give is what the orders give
   wanted_same : wanted_on i.buys ≡ demand of_order os
@@ -177,20 +177,20 @@ module _ (os : List Order) (i : Opening) (buys : Laid Buy os i.buys) (sells : La
   offered_same = λ t q. offered_is os i.sells sells q t
 
   found_price : fold (better_on i) 5 (candidates i) ≡ best
-  found_price = (λ t. fold (better_by (wanted_same t) (offered_same t) i.close) 5 (candidates i)) ∙ search_finds os i.close (candidates i) candidates_have
+  found_price = (λ t. fold (better_by (wanted_same t) (offered_same t) i.close.value) 5 (candidates i)) ∙ search_finds os i.close.value (candidates i) candidates_have
 
   found_is : (c : Candidate) → Rated i c → c.price ≡ fold (better_on i) 5 (candidates i) → (c.price ≡ best) × (c.volume ≡ matched_volume of_order os best)
   found_is c r e =
       let p = e ∙ found_price in
       (p, r.volume ∙ (λ t. traded_at (wanted_same t) (offered_same t) (p t)))
 
-  pub top_some : (c : Candidate) → Rated i c → c.price ≡ fold (better_on i) 5 (candidates i) → 0 < c.volume → Some (c.price, c.volume) ≡ top os i.close
+  pub top_some : (c : Candidate) → Rated i c → c.price ≡ fold (better_on i) 5 (candidates i) → 0 < c.volume → Some (c.price, c.volume) ≡ top os i.close.value
   top_some c r e l =
       let f = found_is c r e in
       let n = matched_volume of_order os best in
       (λ t. Some (f.0 t, f.1 t)) ∙ sym (cond-true (ltb 0 n) (Some (best, n)) None (lt-ltb 0 n (omega (arith, f.1))))
 
-  pub top_none : (c : Candidate) → Rated i c → c.price ≡ fold (better_on i) 5 (candidates i) → c.volume ≤ 0 → None ≡ top os i.close
+  pub top_none : (c : Candidate) → Rated i c → c.price ≡ fold (better_on i) 5 (candidates i) → c.volume ≤ 0 → None ≡ top os i.close.value
   top_none c r e l =
       let n = matched_volume of_order os best in
       sym (cond-false (ltb 0 n) (Some (best, n)) None (le-ltb 0 n (omega (arith, (found_is c r e).1))))

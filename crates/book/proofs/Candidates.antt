@@ -1,5 +1,5 @@
--- The opening price lies within one grid step of the close or of some limit, so few prices need be tried.
-use Rattle.std.proofs.Common.{◌≡◌, ℕ, ◌%◌, ◌<◌, ◌≤◌, min, Bool, true, false, cond, ◌&&◌, leb, ◌⊎◌, List, [], ◌∷◌, get_or, Some, fold, sum_by, filter, sym, refl, ap, ◌∙◌, subst, ap₂, inl, inr, ⊎_elim, arith}
+-- The opening price lies within one grid step of the close or beside some limit, so few prices need be tried.
+use Rattle.std.proofs.Common.{◌≡◌, ℕ, ◌%◌, ◌<◌, ◌≤◌, min, Bool, true, false, cond, ◌&&◌, ltb, leb, ◌⊎◌, List, [], ◌∷◌, get_or, Some, fold, sum_by, filter, sym, refl, ap, ◌∙◌, subst, ap₂, inl, inr, ⊎_elim, arith}
 use Rattle.std.specs.List.{ContainsAt as Has, AllByRecursion, best_of}
 use Rattle.std.proofs.lemmas.List.MinMax.{IsFirstBest-from_best_of}
 use Rattle.std.proofs.ByRecursion.{All-from_get_or, all-has, All-weaker, has_get_or, kept_by_passes}
@@ -17,7 +17,7 @@ use Rattle.rules.specs.Volume.{willing_at, willing, volume, demand, supply, matc
 use Rattle.rules.specs.Opening.{opens_better, best_price}
 use Rattle.rules.proofs.Tops.{opens_ranks, best_on_grid, unbeaten, same_best}
 use Rattle.rules.proofs.Matching.{has_cons, has_to_kept, kept_same}
-use Rattle.book.specs.Candidates.{above, below, floor, around, better_by}
+use Rattle.book.specs.Candidates.{above, below, floor, ceiling, around, beside, better_by}
 use Rattle.book.proofs.Listed.{has_here, folded_kept}
 
 -- ---- what on_grid says
@@ -42,35 +42,44 @@ gridded q h = record {
 abbrev near : ℕ → ℕ → Bool
 near q x = leb (below q) x && leb x (above q)
 
-abbrev limit_near : ℕ → OrderKind → Bool
-limit_near q (Limit l) = near q l.value
-limit_near q MarketOnOpening = false
+-- an order becomes willing between q and one of its neighbours
+abbrev limit_near : ℕ → Side → OrderKind → Bool
+limit_near q Buy (Limit l) = leb (below q) l.value && ltb l.value (above q)
+limit_near q Sell (Limit l) = ltb (below q) l.value && leb l.value (above q)
+limit_near q Buy MarketOnOpening = false
+limit_near q Sell MarketOnOpening = false
 
-willing_same : (s : Side) (k : OrderKind) (q p : ℕ) → below q ≤ p → p ≤ above q → limit_near q k ≡ false → willing_at s q (limit_of k) ≡ willing_at s p (limit_of k)
+willing_same : (s : Side) (k : OrderKind) (q p : ℕ) → below q ≤ p → p ≤ above q → limit_near q s k ≡ false → willing_at s q (limit_of k) ≡ willing_at s p (limit_of k)
 willing_same Buy (Limit l) q p a b h = grind (arith, nat_tests)
 willing_same Sell (Limit l) q p a b h = grind (arith, nat_tests)
 willing_same Buy MarketOnOpening q p a b h = refl
 willing_same Sell MarketOnOpening q p a b h = refl
 
 module _ (q p : ℕ) (a : below q ≤ p) (b : p ≤ above q) where
-  volume_same : (s : Side) (os : List Order) → AllByRecursion (λ o. limit_near q o.kind ≡ false) os → volume of_order s os q ≡ volume of_order s os p
+  side_same : (s t : Side) (k : OrderKind) → limit_near q t k ≡ false → (same_side t s && willing_at s q (limit_of k)) ≡ (same_side t s && willing_at s p (limit_of k))
+  side_same Buy Buy k h = willing_same Buy k q p a b h
+  side_same Buy Sell k h = refl
+  side_same Sell Buy k h = refl
+  side_same Sell Sell k h = willing_same Sell k q p a b h
+
+  volume_same : (s : Side) (os : List Order) → AllByRecursion (λ o. limit_near q o.side o.kind ≡ false) os → volume of_order s os q ≡ volume of_order s os p
   volume_same s os h = ap (sum_by standing) (kept_same (λ o. willing s q (of_order o)) (λ o. willing s p (of_order o)) os
-      (All-weaker (λ o. limit_near q o.kind ≡ false) (λ o. willing s q (of_order o) ≡ willing s p (of_order o)) (λ o t. ap (λ z. same_side o.side s && z) (willing_same s o.kind q p a b t)) os h))
+      (All-weaker (λ o. limit_near q o.side o.kind ≡ false) (λ o. willing s q (of_order o) ≡ willing s p (of_order o)) (λ o t. side_same s o.side o.kind t) os h))
 
   -- the nearer to the close then opens better
-  nearer_better : (os : List Order) (close : ℕ) → AllByRecursion (λ o. limit_near q o.kind ≡ false) os → distance p close < distance q close → opens_better os close p q ≡ true
+  nearer_better : (os : List Order) (close : ℕ) → AllByRecursion (λ o. limit_near q o.side o.kind ≡ false) os → distance p close < distance q close → opens_better os close p q ≡ true
   nearer_better os close h d =
       let e = volume_same Buy os h in let f = volume_same Sell os h in
       let t : matched_volume of_order os q ≡ matched_volume of_order os p = ap₂ min e f in
       let u : surplus of_order os q ≡ surplus of_order os p = ap₂ distance e f in
       grind (arith, nat_tests)
 
-some_near : (q : ℕ) (os : List Order) → AllByRecursion (λ o. limit_near q o.kind ≡ false) os ⊎ ((o : Order) × Has os o × (limit_near q o.kind ≡ true))
+some_near : (q : ℕ) (os : List Order) → AllByRecursion (λ o. limit_near q o.side o.kind ≡ false) os ⊎ ((o : Order) × Has os o × (limit_near q o.side o.kind ≡ true))
 some_near q [] = inl tt
 some_near q (o ∷ os) = ⊎_elim
     (λ here. inr (o, has_here o os o refl, here))
     (λ none. ⊎_elim (λ rest. inl (none, rest)) (λ r. inr (r.0, has_cons o os r.0 r.1, r.2)) (some_near q os))
-    (cases_Bool (limit_near q o.kind))
+    (cases_Bool (limit_near q o.side o.kind))
 
 above_on_grid : (q : ℕ) → on_grid q ≡ true → above q ≤ 99999 → on_grid (above q) ≡ true
 above_on_grid q h l = let g = gridded q h in grind (arith, nat_tests)
@@ -80,10 +89,10 @@ below_on_grid q h l = let g = gridded q h in grind (arith, nat_tests)
 
 module _ (os : List Order) (close : ℕ) (span : close ≤ 99999) where
   abbrev Beside : ℕ → Type 0
-  Beside q = (near q close ≡ true) ⊎ ((o : Order) × Has os o × (limit_near q o.kind ≡ true))
+  Beside q = (near q close ≡ true) ⊎ ((o : Order) × Has os o × (limit_near q o.side o.kind ≡ true))
 
   -- a grid price with the close and all limits beyond its neighbours is outdone by a neighbour
-  outdone : (q : ℕ) → on_grid q ≡ true → near q close ≡ false → AllByRecursion (λ o. limit_near q o.kind ≡ false) os → (p : ℕ) × (on_grid p ≡ true) × (opens_better os close p q ≡ true)
+  outdone : (q : ℕ) → on_grid q ≡ true → near q close ≡ false → AllByRecursion (λ o. limit_near q o.side o.kind ≡ false) os → (p : ℕ) × (on_grid p ≡ true) × (opens_better os close p q ≡ true)
   outdone q g far none = ⊎_elim
       (λ (l : close < below q). (below q, below_on_grid q g (omega arith), nearer_better q (below q) (omega arith) (grind (arith, nat_tests)) os close none (grind (arith, nat_tests))))
       (λ (l : above q < close). (above q, above_on_grid q g (omega arith), nearer_better q (above q) (grind (arith, nat_tests)) (omega arith) os close none (grind (arith, nat_tests))))
@@ -115,16 +124,27 @@ around_has q x g h = ⊎_elim
     r))
     (near_around q x g h)
 
-limit_has : (q : ℕ) (k : OrderKind) → on_grid q ≡ true → limit_near q k ≡ true → (x : ℕ) × (limit_of k ≡ Some x) × Has (around x) q
-limit_has q (Limit l) g h = (l.value, refl, around_has q l.value g h)
-limit_has q MarketOnOpening g h = absurd (both_ways false refl h)
+near_buy : (q l : ℕ) → on_grid q ≡ true → (leb (below q) l && ltb l (above q)) ≡ true → (q ≡ floor l) ⊎ (q ≡ above (floor l))
+near_buy q l g h = let k = gridded q g in grind (arith, nat_tests)
+
+near_sell : (q l : ℕ) → on_grid q ≡ true → (ltb (below q) l && leb l (above q)) ≡ true → (q ≡ below (ceiling l)) ⊎ (q ≡ ceiling l)
+near_sell q l g h = let k = gridded q g in grind (arith, nat_tests)
+
+has_one : (x y q : ℕ) → (q ≡ x) ⊎ (q ≡ y) → Has (x ∷ y ∷ []) q
+has_one x y q = ⊎_elim (λ e. has_here x (y ∷ []) q (sym e)) (λ e. has_cons x (y ∷ []) q (has_here y [] q (sym e)))
+
+limit_has : (q : ℕ) (s : Side) (k : OrderKind) → on_grid q ≡ true → limit_near q s k ≡ true → (x : ℕ) × (limit_of k ≡ Some x) × Has (beside s x) q
+limit_has q Buy (Limit l) g h = (l.value, refl, has_one (floor l.value) (above (floor l.value)) q (near_buy q l.value g h))
+limit_has q Sell (Limit l) g h = (l.value, refl, has_one (below (ceiling l.value)) (ceiling l.value) q (near_sell q l.value g h))
+limit_has q Buy MarketOnOpening g h = absurd (both_ways false refl h)
+limit_has q Sell MarketOnOpening g h = absurd (both_ways false refl h)
 
 module _ (os : List Order) (close : ℕ) (span : close ≤ 99999) where
-  -- the opening price is around the close or around the limit of some order
-  pub best_around : Has (around close) (best_price os close) ⊎ ((o : Order) × Has os o × ((x : ℕ) × (limit_of o.kind ≡ Some x) × Has (around x) (best_price os close)))
+  -- the opening price is around the close or beside the limit of some order
+  pub best_around : Has (around close) (best_price os close) ⊎ ((o : Order) × Has os o × ((x : ℕ) × (limit_of o.kind ≡ Some x) × Has (beside o.side x) (best_price os close)))
   best_around = ⊎_elim
       (λ n. inl (around_has (best_price os close) close (best_on_grid os close) n))
-      (λ s. inr (s.0, s.1, limit_has (best_price os close) s.0.kind (best_on_grid os close) s.2))
+      (λ s. inr (s.0, s.1, limit_has (best_price os close) s.0.side s.0.kind (best_on_grid os close) s.2))
       (best_beside os close span)
 
 -- ---- a search that tries one price after another

@@ -1,5 +1,5 @@
 -- One level of a sorted list of orders, and the shares of each level in turn.
-use Rattle.std.proofs.Common.{◌≡◌, ℕ, zero, suc, ◌+◌, ◌-◌, ◌<◌, ◌≤◌, true, false, eqb, ltb, List, [], ◌∷◌, ◌++◌, map, length, get_or, take, drop, Some, None, sum_by, filter, Option, sym, refl, ap, ◌∙◌, subst, ⊎_elim, add-one, arith}
+use Rattle.std.proofs.Common.{◌≡◌, ℕ, suc, ◌+◌, ◌-◌, ◌<◌, ◌≤◌, true, false, eqb, ltb, List, [], ◌∷◌, ◌++◌, map, length, get_or, take, drop, Some, None, sum_by, filter, Option, sym, refl, ap, ◌∙◌, subst, ⊎_elim, add-one, arith}
 use Rattle.std.specs.List.{AllByRecursion}
 use Rattle.std.proofs.lemmas.List.Elements.{filter-append}
 use Rattle.std.proofs.ByRecursion.{All-weaker, All-get_or, All-from_get_or}
@@ -18,19 +18,6 @@ use Rattle.rules.specs.Law.{Rising}
 use Rattle.rules.proofs.Matching.{kept_all, kept_none, rising_above}
 use Rattle.sharing.specs.Sharing.{Sharing}
 use Rattle.book.specs.Places.{no_order, Sorted}
-
-pub sorted_at : (ys : List Order) (i j : ℕ) → Sorted ys → i ≤ j → j < length ys → priority (get_or ys i no_order) ≤ priority (get_or ys j no_order)
-sorted_at [] i j s le lt = absurd (none j lt)
-  where
-    none : (j : ℕ) → j < 0 → ⊥
-    none j l = omega arith
-sorted_at (y ∷ ys) zero zero s le lt = omega arith
-sorted_at (y ∷ ys) zero (suc j) s le lt = All-get_or (λ x. priority y ≤ priority x) ys j no_order (omega arith) s.0
-sorted_at (y ∷ ys) (suc i) zero s le lt = absurd (none i le)
-  where
-    none : (i : ℕ) → suc i ≤ 0 → ⊥
-    none i l = omega arith
-sorted_at (y ∷ ys) (suc i) (suc j) s le lt = sorted_at ys i j s.1 (omega arith) (omega arith)
 
 -- what a level is: it begins at `from`, and all before it come earlier; it ends at `to`
 pub record Level (ys : List Order) (from to : ℕ) : Type 0 where
@@ -67,8 +54,8 @@ module _ (ys : List Order) (from to : ℕ) (s : Sorted ys) (l : Level ys from to
     where
       later : (i : ℕ) → to + i < length ys → r < priority (get_or ys (to + i) no_order)
       later i lt =
-          let a = sorted_at ys from to s (omega (arith, l.some)) (omega arith) in
-          let b = sorted_at ys to (to + i) s (omega arith) lt in
+          let a = s from to no_order (omega (arith, l.some)) (omega arith) in
+          let b = s to (to + i) no_order (omega arith) lt in
           omega (arith, a, b, l.apart (omega arith))
 
   pub level_is : level r ys ≡ part
@@ -99,7 +86,7 @@ module _ (ys : List Order) (from to : ℕ) (s : Sorted ys) (l : Level ys from to
     where
       earlier : (i : ℕ) → i < to → priority (get_or ys i no_order) < priority (get_or ys to no_order)
       earlier i k =
-          let a = sorted_at ys from to s (omega (arith, l.some)) lt in
+          let a = s from to no_order (omega (arith, l.some)) lt in
           let b = l.apart lt in
           ⊎_elim
           (λ (m : i < from). (let c = All-get_or (λ o. priority o < r) (take from ys) i no_order (omega (arith, length-take-le from ys (omega (arith, l.some, l.inside)))) l.before in
@@ -153,9 +140,6 @@ module _ (rule : Sharing) (ys : List Order) (amount : ℕ) (marked : Option ℕ)
     pub first : from < length ys → AllByRecursion (λ o. priority o < priority (get_or ys from no_order)) (take from ys)
     pub inside : from ≤ length ys
     pub long : length shares ≡ length ys
-
-  pub allocating_none : (shares : List Contracts) → length shares ≡ length ys → Allocating shares 0 0
-  allocating_none shares e = record { done = refl; sum = refl; first = λ l. tt; inside = omega arith; long = e }
 
   module _ (s : Sorted ys) (rising : (r : ℕ) → Rising (λ (o : Order). o.number) 0 (level r ys)) (from to : ℕ) (l : Level ys from to) where
     -- the shares of one level are its orders' fills

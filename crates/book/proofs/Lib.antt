@@ -1,6 +1,8 @@
+pub mod Inserted
 pub mod Walks
 pub mod Sorting
 pub mod Stable
+pub mod Ranks
 pub mod Levels
 pub mod Finding
 pub mod Dividing
@@ -13,7 +15,6 @@ pub mod Scattering
 pub mod Takings
 pub mod Listed
 pub mod Candidates
-pub mod Inserting
 pub mod Laying
 pub mod Walking
 pub mod Searching

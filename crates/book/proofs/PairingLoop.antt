@@ -1,6 +1,6 @@
 -- A loop that writes the rows of a pairing from the front.
 use Rattle.std.proofs.Common.{◌≡◌, ℕ, ◌+◌, ◌-◌, ◌<◌, ◌≤◌, min, ltb, List, [], ◌∷◌, ◌++◌, map, length, get_or, take, drop, set, sym, refl, ap, ◌∙◌, subst, ap₂, subst₂, arith}
-use Rattle.std.proofs.lemmas.List.{append-nil, append_assoc, length-append, length-map, length-take-le, length-set, take_more_set, take-append-drop, drop-set-lt, drop-drop, at_drop_more, at_drop_all}
+use Rattle.std.proofs.lemmas.List.{append-nil, append_assoc, length-append, length-map, length-take-le, length-set, take_more_set, take-append-drop, drop-set-lt, drop-drop}
 use Rattle.std.proofs.lemmas.Bool.{cond-true, lt-ltb}
 use Rattle.market.specs.Words.{trade}
 use Rattle.market.specs.declared.order.Side.TheVariants.{Buy}
@@ -8,7 +8,7 @@ use Rattle.market.specs.declared.row.Row.{Row}
 use Rattle.rules.specs.Opening.{intervals, paired}
 use Rattle.book.specs.Pairing.{filled_pair, pairing_rows}
 use Rattle.book.specs.declared.pairing.Filled.{Filled}
-use Rattle.book.proofs.InTurn.{row_of, pair_up, pair_step, pair_none, drop_buyer, drop_seller, paired_is, paired_length}
+use Rattle.book.proofs.InTurn.{row_of, pair_up, pair_step, pair_none, drop_buyer, paired_is, paired_length}
 
 -- `count` rows are written, and bs and ss are still to be paired
 pub record Writing (p : ℕ) (all old rows : List Row) (count : ℕ) (bs ss : List (ℕ × ℕ)) : Type 0 where
@@ -22,9 +22,6 @@ writing_none p old bs ss = record { written = sym (paired_is p bs 0 ss); rest = 
 
 writing_buyer : {p : ℕ} {all old rows : List Row} {count : ℕ} {bs ss : List (ℕ × ℕ)} → (n : ℕ) → Writing p all old rows count ((n, 0) ∷ bs) ss → Writing p all old rows count bs ss
 writing_buyer {p} {rows = rows} {count = count} {bs} {ss} n w = record { written = ap (λ z. take count rows ++ z) (sym (drop_buyer p n bs ss)) ∙ w.written; rest = w.rest; long = w.long; inside = w.inside }
-
-writing_seller : {p : ℕ} {all old rows : List Row} {count : ℕ} {bs ss : List (ℕ × ℕ)} → (m : ℕ) → Writing p all old rows count bs ((m, 0) ∷ ss) → Writing p all old rows count bs ss
-writing_seller {p} {rows = rows} {count = count} {bs} {ss} m w = record { written = ap (λ z. take count rows ++ z) (sym (drop_seller p m bs ss)) ∙ w.written; rest = w.rest; long = w.long; inside = w.inside }
 
 module _ {p : ℕ} {all old rows : List Row} {count n x m y : ℕ} {bs ss : List (ℕ × ℕ)} (k : ℕ) (least : k ≡ min x y) (w : Writing p all old rows count ((n, x) ∷ bs) ((m, y) ∷ ss)) where
   stepped : take count rows ++ (row_of p n m k ++ pair_up p ((n, x - k) ∷ bs) ((m, y - k) ∷ ss)) ≡ all
@@ -62,7 +59,7 @@ writing_done {all = all} {old} {rows} {count} w none =
     let long : count ≡ length all = sym (length-take-le count rows w.inside) ∙ ap length front in
     (sym (take-append-drop count rows) ∙ ap₂ ◌++◌ front (w.rest ∙ ap (λ z. drop z old) long), long)
 
--- ---- two lists by places: the first of what is left of the sellers has sold some already
+-- ---- the first of the sellers that are left has sold some already
 
 -- k contracts less for the first
 abbrev pub used_up : ℕ → List (ℕ × ℕ) → List (ℕ × ℕ)
@@ -85,33 +82,23 @@ pub rows_fit : (p : ℕ) (buyers sellers : List Filled) (room : ℕ) → length 
 rows_fit p buyers sellers room l =
     omega (arith, paired_length p 0 (map filled_pair buyers) (map filled_pair sellers), length-map buyers filled_pair, length-map sellers filled_pair)
 
--- bs are still to be paired, with the sellers from place `at` on, the first of which has sold `sold` contracts
-pub record Going (p : ℕ) (all old rows : List Row) (count : ℕ) (bs : List (ℕ × ℕ)) (sellers : List Filled) (at sold : ℕ) : Type 0 where
-  pub writing : Writing p all old rows count bs (unsold sold (drop at sellers))
-  pub placed : at ≤ length sellers
-  pub fits : sold ≤ (get_or sellers at no_filled).contracts.count
+-- bs are still to be paired, with the sellers that are left, the first of which has sold `sold` contracts
+pub record Going (p : ℕ) (all old rows : List Row) (count : ℕ) (bs : List (ℕ × ℕ)) (left : List Filled) (sold : ℕ) : Type 0 where
+  pub writing : Writing p all old rows count bs (unsold sold left)
+  pub fits : sold ≤ (get_or left 0 no_filled).contracts.count
 
-pub going_none : (p : ℕ) (old : List Row) (bs ss : List Filled) → Going p (pairing_rows p bs ss) old old 0 (map filled_pair bs) ss 0 0
+pub going_none : (p : ℕ) (old : List Row) (bs ss : List Filled) → Going p (pairing_rows p bs ss) old old 0 (map filled_pair bs) ss 0
 going_none p old bs ss = record {
   writing = subst (Writing p (pairing_rows p bs ss) old old 0 (map filled_pair bs)) (sym (used_none (map filled_pair ss))) (writing_none p old (map filled_pair bs) (map filled_pair ss));
-  placed = omega arith;
   fits = omega arith;
-}
-
--- a loop inside counts from its own start
-pub going_inside : {p : ℕ} {all old rows : List Row} {count : ℕ} {bs : List (ℕ × ℕ)} {ss : List Filled} {at sold : ℕ} → Going p all old rows count bs ss at sold → Going p all rows rows count bs ss at sold
-going_inside g = record {
-  writing = record { written = g.writing.written; rest = refl; long = refl; inside = g.writing.inside };
-  placed = g.placed;
-  fits = g.fits;
 }
 
 drop_both : {X : Type 0} (xs ys : List X) (c d : ℕ) → c ≤ d → drop c xs ≡ drop c ys → drop d xs ≡ drop d ys
 drop_both xs ys c d l e =
     ap (λ k. drop k xs) {x = d} {y = c + (d - c)} (omega arith) ∙ sym (drop-drop (d - c) c xs) ∙ ap (drop (d - c)) e ∙ drop-drop (d - c) c ys ∙ ap (λ k. drop k ys) {x = c + (d - c)} {y = d} (omega arith)
 
-pub going_outside : {p : ℕ} {all old rows now : List Row} {count more : ℕ} {bs cs : List (ℕ × ℕ)} {ss : List Filled} {at sold then here : ℕ} →
-    Going p all old rows count cs ss then here → count ≤ more → Going p all rows now more bs ss at sold → Going p all old now more bs ss at sold
+pub going_outside : {p : ℕ} {all old rows now : List Row} {count more : ℕ} {bs cs : List (ℕ × ℕ)} {left then : List Filled} {sold here : ℕ} →
+    Going p all old rows count cs then here → count ≤ more → Going p all rows now more bs left sold → Going p all old now more bs left sold
 going_outside {old = old} {rows} {count = count} {more} g l k = record {
   writing = record {
     written = k.writing.written;
@@ -119,69 +106,40 @@ going_outside {old = old} {rows} {count = count} {more} g l k = record {
     long = k.writing.long ∙ g.writing.long;
     inside = k.writing.inside;
   };
-  placed = k.placed;
   fits = k.fits;
 }
 
-module _ {p : ℕ} {all old rows : List Row} {count n x : ℕ} {bs : List (ℕ × ℕ)} {sellers : List Filled} {at sold : ℕ} (g : Going p all old rows count ((n, x) ∷ bs) sellers at sold) (l : at < length sellers) where
-  abbrev first : ℕ × ℕ
-  first = filled_pair (get_or sellers at no_filled)
+module _ {p : ℕ} {all old rows : List Row} {count n x : ℕ} {bs : List (ℕ × ℕ)} {left : List Filled} {sold : ℕ} (s : Filled) (later : List Filled) (e : left ≡ s ∷ later) (going : Going p all old rows count ((n, x) ∷ bs) left sold) where
+  g : Going p all old rows count ((n, x) ∷ bs) (s ∷ later) sold
+  g = subst (λ ss. Going p all old rows count ((n, x) ∷ bs) ss sold) e going
 
-  abbrev later : List (ℕ × ℕ)
-  later = map filled_pair (drop (at + 1) sellers)
+  pub going_fits : sold ≤ s.contracts.count
+  going_fits = g.fits
 
-  at_first : Writing p all old rows count ((n, x) ∷ bs) ((first.0, first.1 - sold) ∷ later)
-  at_first = subst (Writing p all old rows count ((n, x) ∷ bs)) (at_drop_more (unsold sold) sellers at no_filled l) g.writing
-
-  -- the seller has no more to sell
-  pub going_next : sold ≡ first.1 → Going p all old rows count ((n, x) ∷ bs) sellers (at + 1) 0
-  going_next e =
-      let none : first.1 - sold ≡ 0 = omega arith in record {
-        writing = subst (Writing p all old rows count ((n, x) ∷ bs)) (sym (used_none later))
-            (writing_seller first.0 (subst (λ z. Writing p all old rows count ((n, x) ∷ bs) ((first.0, z) ∷ later)) none at_first));
-        placed = omega arith;
-        fits = omega arith;
-      }
-
-  module _ (k : ℕ) (least : k ≡ min x (first.1 - sold)) (some : 0 < k) (room : length all ≤ length old) where
+  module _ (k : ℕ) (least : k ≡ min x (s.contracts.count - sold)) (some : 0 < k) (room : length all ≤ length old) where
     pub going_room : count < length rows
-    going_room = writing_room k least at_first some room
+    going_room = writing_room k least g.writing some room
 
     -- one more row
-    pub going_on : (y z : ℕ) (r : Row) → y ≡ x - k → z ≡ sold + k → r ≡ trade Buy n first.0 p k → Going p all old (set rows count r) (count + 1) ((n, y) ∷ bs) sellers at z
-    going_on y z r e f t =
-        let low = g.fits in
-        let rest : first.1 - sold - k ≡ first.1 - z = omega arith in record {
-          writing = subst (Writing p all old (set rows count r) (count + 1) ((n, y) ∷ bs)) (sym (at_drop_more (unsold z) sellers at no_filled l))
-              (subst (λ q. Writing p all old (set rows count q) (count + 1) ((n, y) ∷ bs) ((first.0, first.1 - z) ∷ later)) (sym t)
-              (subst₂ (λ u v. Writing p all old (set rows count (trade Buy n first.0 p k)) (count + 1) ((n, u) ∷ bs) ((first.0, v) ∷ later)) (sym e) rest (writing_adds k least at_first some room)));
-          placed = g.placed;
+    pub going_on : (y z : ℕ) (r : Row) → y ≡ x - k → z ≡ sold + k → r ≡ trade Buy n s.number p k → Going p all old (set rows count r) (count + 1) ((n, y) ∷ bs) left z
+    going_on y z r d f t =
+        let low = going_fits in
+        let rest : s.contracts.count - sold - k ≡ s.contracts.count - z = omega arith in
+        subst (λ ss. Going p all old (set rows count r) (count + 1) ((n, y) ∷ bs) ss z) (sym e) (record {
+          writing = subst (λ q. Writing p all old (set rows count q) (count + 1) ((n, y) ∷ bs) ((s.number, s.contracts.count - z) ∷ map filled_pair later)) (sym t)
+              (subst₂ (λ u v. Writing p all old (set rows count (trade Buy n s.number p k)) (count + 1) ((n, u) ∷ bs) ((s.number, v) ∷ map filled_pair later)) (sym d) rest (writing_adds k least g.writing some room));
           fits = omega arith;
-        }
+        })
 
--- the next buyer
-pub going_buyer : {p : ℕ} {all old rows : List Row} {count at sold : ℕ} {ss : List Filled} (buyers : List Filled) (i : ℕ) → i < length buyers → Going p all old rows count (map filled_pair (drop i buyers)) ss at sold →
-    Going p all old rows count (filled_pair (get_or buyers i no_filled) ∷ map filled_pair (drop (i + 1) buyers)) ss at sold
-going_buyer {p} {all} {old} {rows} {count} {at} {sold} {ss} buyers i l g = record {
-  writing = subst (λ bs. Writing p all old rows count bs (unsold sold (drop at ss))) (at_drop_more (map filled_pair) buyers i no_filled l) g.writing;
-  placed = g.placed;
+-- the first buyer is served
+pub going_served : {p : ℕ} {all old rows : List Row} {count n x sold : ℕ} {bs : List (ℕ × ℕ)} {left : List Filled} → x ≡ 0 → Going p all old rows count ((n, x) ∷ bs) left sold → Going p all old rows count bs left sold
+going_served {p} {all} {old} {rows} {count} {n} {x} {sold} {bs} {left} e g = record {
+  writing = writing_buyer n (subst (λ z. Writing p all old rows count ((n, z) ∷ bs) (unsold sold left)) e g.writing);
   fits = g.fits;
 }
 
-pub going_served : {p : ℕ} {all old rows : List Row} {count n x at sold : ℕ} {bs : List (ℕ × ℕ)} {ss : List Filled} → x ≡ 0 → Going p all old rows count ((n, x) ∷ bs) ss at sold → Going p all old rows count bs ss at sold
-going_served {p} {all} {old} {rows} {count} {n} {x} {at} {sold} {bs} {ss} e g = record {
-  writing = writing_buyer n (subst (λ z. Writing p all old rows count ((n, z) ∷ bs) (unsold sold (drop at ss))) e g.writing);
-  placed = g.placed;
-  fits = g.fits;
-}
-
--- all buyers, or all sellers, are paired
-pub going_sold : {p : ℕ} {all old rows : List Row} {count at sold : ℕ} {bs : List (ℕ × ℕ)} {sellers : List Filled} → Going p all old rows count bs sellers at sold → length sellers ≤ at → (rows ≡ all ++ drop count old) × (count ≡ length all)
-going_sold {p} {all} {old} {rows} {count} {at} {sold} {bs} {sellers} g l =
-    let d = writing_done g.writing (at_drop_all (λ ss. pair_up p bs (unsold sold ss)) sellers at l ∙ pair_none p bs) in
-    (d.0 ∙ ap (λ k. all ++ drop k old) (sym d.1), d.1)
-
-pub going_bought : {p : ℕ} {all old rows : List Row} {count at sold : ℕ} {sellers : List Filled} (buyers : List Filled) (i : ℕ) → Going p all old rows count (map filled_pair (drop i buyers)) sellers at sold → length buyers ≤ i → (rows ≡ all ++ drop count old) × (count ≡ length all)
-going_bought {p} {all} {old} {rows} {count} {at} {sold} {sellers} buyers i g l =
-    let d = writing_done g.writing (at_drop_all (λ bs. pair_up p (map filled_pair bs) (unsold sold (drop at sellers))) buyers i l) in
+-- all sellers are paired
+pub going_sold : {p : ℕ} {all old rows : List Row} {count sold : ℕ} {bs : List (ℕ × ℕ)} {left : List Filled} → Going p all old rows count bs left sold → left ≡ [] → (rows ≡ all ++ drop count old) × (count ≡ length all)
+going_sold {p} {all} {old} {rows} {count} {sold} {bs} {left} g e =
+    let d = writing_done g.writing (ap (λ ss. pair_up p bs (unsold sold ss)) e ∙ pair_none p bs) in
     (d.0 ∙ ap (λ k. all ++ drop k old) (sym d.1), d.1)

@@ -1,28 +1,28 @@
 -- Laws of the list of live records.
-use Rattle.std.proofs.Common.{◌≡◌, ℕ, ◌+◌, ◌<◌, ◌≤◌, Bool, true, cond, not, ◌||◌, eqb, ltb, leb, List, [], ◌∷◌, ◌++◌, map, length, count_by, filter, sym, refl, ap, subst, arith, length-take}
+use Rattle.std.proofs.Common.{◌≡◌, ℕ, ◌+◌, ◌≤◌, min, Bool, true, cond, not, ◌||◌, eqb, ltb, leb, List, [], ◌∷◌, ◌++◌, length, get_or, count_by, filter, sym, refl, ap, subst, arith, length-take}
 use Rattle.std.specs.List.{list_all, AllByRecursion}
-use Rattle.std.proofs.ByRecursion.{All-append, all_kept_by, All-weaker, All-take}
-use Rattle.std.proofs.lemmas.List.{length-append}
-use Rattle.std.proofs.lemmas.List.Sums.{sum_by-append, sum_by-cons, count_by-le-length, length-filter}
+use Rattle.std.proofs.ByRecursion.{all_kept_by, All-weaker, All-take}
+use Rattle.std.proofs.lemmas.List.Elements.{All-from_recursion, recursion_from_All}
+use Rattle.std.proofs.lemmas.List.Sums.{AllPass-from_list_all, list_all-from_AllPass, sum_by-cons, count_by-le-length, length-filter}
 use Rattle.std.proofs.lemmas.Bool.{and_parts, and_from, lt-ltb, ltb-true, leb-true, le-leb, eq-eqb, eqb-true, cond_both}
 use Rattle.market.specs.Words.{standing, in_book, auctioned}
 use Rattle.market.specs.declared.order.Order.{Order}
 use Rattle.market.specs.declared.order.Role.{Role}
 use Rattle.market.specs.declared.order.Role.TheVariants.{Book, Auctioned, Starter, Competing}
+use Rattle.rules.specs.Allocation.{after_trade}
 use Rattle.rules.specs.Law.{Rising}
 use Rattle.rules.proofs.Matching.{count_kept}
 use Rattle.book.specs.Orders.{orders}
 use Rattle.book.specs.Records.{balanced, booked, auction_contra, customers, rises, Live}
+use Rattle.book.specs.Settling.{by_place, settled_up_to, traded_up_to}
 use Rattle.book.specs.declared.table.Table.{Table}
 
 module _ {X : Type 0} (p : X → Bool) where
   pub pass_all : (xs : List X) → list_all p xs ≡ true → AllByRecursion (λ x. p x ≡ true) xs
-  pass_all [] h = tt
-  pass_all (x ∷ xs) h = let b = and_parts (p x) (list_all p xs) h in (b.0, pass_all xs b.1)
+  pass_all xs h = recursion_from_All (λ x. p x ≡ true) xs (AllPass-from_list_all p xs h)
 
   pub all_passes : (xs : List X) → AllByRecursion (λ x. p x ≡ true) xs → list_all p xs ≡ true
-  all_passes [] h = refl
-  all_passes (x ∷ xs) h = and_from (p x) (list_all p xs) h.0 (all_passes xs h.1)
+  all_passes xs h = list_all-from_AllPass p xs (All-from_recursion (λ x. p x ≡ true) xs h)
 
 -- what a balanced record says in numbers
 pub balance : (o : Order) → balanced o ≡ true → (o.left.count + o.traded.count + o.gone.count ≡ o.size.count) × (o.size.count ≤ 9999)
@@ -62,14 +62,6 @@ rises_kept p low (o ∷ os) top h =
     (λ _. and_from (ltb low o.number) (rises o.number (filter p os) top) b.0 more)
     (λ _. rises_wider low o.number (filter p os) top top (omega arith) (omega arith) more)
 
-pub rises_map : (f : Order → Order) → ((o : Order) → (f o).number ≡ o.number) → (low : ℕ) (os : List Order) (top : ℕ) → rises low os top ≡ true → rises low (map f os) top ≡ true
-rises_map f e low [] top h = h
-rises_map f e low (o ∷ os) top h =
-    let b = and_parts (ltb low o.number) (rises o.number os top) h in
-    and_from (ltb low (f o).number) (rises (f o).number (map f os) top)
-    (subst (λ (n : ℕ). ltb low n ≡ true) (sym (e o)) b.0)
-    (subst (λ (n : ℕ). rises n (map f os) top ≡ true) (sym (e o)) (rises_map f e o.number os top b.1))
-
 pub rising_from : (low : ℕ) (os : List Order) (top : ℕ) → rises low os top ≡ true → Rising (λ (o : Order). o.number) low os
 rising_from low [] top h = tt
 rising_from low (o ∷ os) top h =
@@ -105,37 +97,68 @@ live_kept p os next l =
       numbers = l.numbers;
     }
 
--- a place is free where the book has one
-pub room_left : (os : List Order) (next : ℕ) → Live os next → count_by (λ o. in_book o.role) os < 128 → length os < 161
-room_left os next l lt =
-    let rivals = l.rivals in
-    let customer = l.customer in
-    omega (arith, count_three os)
-
 pub live_small : (os : List Order) (next : ℕ) → Live os next → AllByRecursion (λ o. standing o ≤ 9999) os
 live_small os next l = All-weaker (λ (o : Order). balanced o ≡ true) (λ (o : Order). standing o ≤ 9999) small_left os l.sound
 
-pub live_later : (os : List Order) (next : ℕ) → Live os next → next < 65536 → Live os (next + 1)
-live_later os next l lt = record { few = l.few; sound = l.sound; rising = rises_wider 0 0 os (next + 1) next (omega arith) (omega arith) l.rising; books = l.books; rivals = l.rivals; customer = l.customer; numbers = omega arith }
+-- no number is past the last
+pub live_upto : (os : List Order) (next : ℕ) → Live os next → Live os 65536
+live_upto os next l = record { few = l.few; sound = l.sound; rising = rises_wider 0 0 os 65536 next (omega arith) l.numbers l.rising; books = l.books; rivals = l.rivals; customer = l.customer; numbers = omega arith }
 
--- one more order of the book
-pub live_booked : (os : List Order) (next : ℕ) → Live os next → next < 65536 → count_by (λ o. in_book o.role) os < 128 → (x : Order) → x.number ≡ next → balanced x ≡ true → x.role ≡ Book → Live (os ++ (x ∷ [])) (next + 1)
-live_booked os next l lt room x e b r =
-    let rivals = l.rivals in
-    let customer = l.customer in
-    let one : ◌≡◌ {A = ℕ} (cond (booked x) 1 0) 1 = ap (λ (q : Role). cond {A = ℕ} (in_book q) 1 0) r in
-    let no-contra : ◌≡◌ {A = ℕ} (cond (auction_contra x) 1 0) 0 = ap (λ (q : Role). cond {A = ℕ} (not (in_book q || auctioned q)) 1 0) r in
-    let no-customer : ◌≡◌ {A = ℕ} (cond (customers x) 1 0) 0 = ap (λ (q : Role). cond {A = ℕ} (auctioned q) 1 0) r in
-    let n = room_left os next l room in
-    record {
-      few = omega (arith, length-append os (x ∷ []));
-      sound = All-append (λ (o : Order). balanced o ≡ true) os (x ∷ []) l.sound (b, tt);
-      rising = rises_push 0 os next x l.rising e;
-      books = omega (arith, sum_by-append (λ (o : Order). cond (booked o) 1 0) os (x ∷ []));
-      rivals = omega (arith, sum_by-append (λ (o : Order). cond (auction_contra o) 1 0) os (x ∷ []));
-      customer = omega (arith, sum_by-append (λ (o : Order). cond (customers o) 1 0) os (x ∷ []));
-      numbers = omega arith;
-    }
+-- ---- orders that change and keep their numbers and roles
+
+module _ (g : ℕ → Order → Order) (number : (k : ℕ) (o : Order) → (g k o).number ≡ o.number) (role : (k : ℕ) (o : Order) → (g k o).role ≡ o.role)
+    (sound : (k : ℕ) (o : Order) → balanced o ≡ true → balanced (g k o) ≡ true) where
+  length_changed : (k : ℕ) (os : List Order) → length (by_place g k os) ≡ length os
+  length_changed k [] = refl
+  length_changed k (o ∷ os) = omega (arith, length_changed (k + 1) os)
+
+  sound_changed : (k : ℕ) (os : List Order) → AllByRecursion (λ o. balanced o ≡ true) os → AllByRecursion (λ o. balanced o ≡ true) (by_place g k os)
+  sound_changed k [] h = tt
+  sound_changed k (o ∷ os) h = (sound k o h.0, sound_changed (k + 1) os h.1)
+
+  rises_changed : (k low : ℕ) (os : List Order) (top : ℕ) → rises low os top ≡ true → rises low (by_place g k os) top ≡ true
+  rises_changed k low [] top h = h
+  rises_changed k low (o ∷ os) top h =
+      let b = and_parts (ltb low o.number) (rises o.number os top) h in
+      and_from (ltb low (g k o).number) (rises (g k o).number (by_place g (k + 1) os) top)
+      (subst (λ (n : ℕ). ltb low n ≡ true) (sym (number k o)) b.0)
+      (subst (λ (n : ℕ). rises n (by_place g (k + 1) os) top ≡ true) (sym (number k o)) (rises_changed (k + 1) o.number os top b.1))
+
+  count_changed : (h : Role → Bool) (k : ℕ) (os : List Order) → count_by (λ o. h o.role) (by_place g k os) ≡ count_by (λ o. h o.role) os
+  count_changed h k [] = refl
+  count_changed h k (o ∷ os) =
+      let one : ◌≡◌ {A = ℕ} (cond (h (g k o).role) 1 0) (cond (h o.role) 1 0) = ap (λ (r : Role). cond {A = ℕ} (h r) 1 0) (role k o) in
+      omega (arith, sum_by-cons (λ (x : Order). cond (h x.role) 1 0) (g k o) (by_place g (k + 1) os), sum_by-cons (λ (x : Order). cond (h x.role) 1 0) o os, one, count_changed h (k + 1) os)
+
+  pub live_changed : (os : List Order) (next : ℕ) → Live os next → Live (by_place g 0 os) next
+  live_changed os next l =
+      let few = l.few in
+      let books = l.books in
+      let rivals = l.rivals in
+      let customer = l.customer in
+      record {
+        few = omega (arith, length_changed 0 os);
+        sound = sound_changed 0 os l.sound;
+        rising = rises_changed 0 0 os next l.rising;
+        books = omega (arith, count_changed in_book 0 os);
+        rivals = omega (arith, count_changed (λ r. not (in_book r || auctioned r)) 0 os);
+        customer = omega (arith, count_changed auctioned 0 os);
+        numbers = l.numbers;
+      }
+
+-- trades keep a record balanced
+pub balanced_traded : (n : ℕ) (o : Order) → balanced o ≡ true → balanced (after_trade (min n (standing o)) o) ≡ true
+balanced_traded n o h = let b = balance o h in balanced_from (after_trade (min n (standing o)) o) (omega arith) b.1
+
+pub live_settled : (p : Order → Bool) (os : List Order) (next : ℕ) (fills : List ℕ) → Live os next → Live (settled_up_to p os fills) next
+live_settled p os next fills l =
+    let g : ℕ → Order → Order = λ k. traded_up_to p (get_or fills k 0) in
+    live_kept (λ o. ltb 0 (standing o)) (by_place g 0 os) next
+    (live_changed g
+    (λ k o. cond_both (p o) (after_trade (min (get_or fills k 0) (standing o)) o) o (λ (x : Order). x.number ≡ o.number) (λ _. refl) (λ _. refl))
+    (λ k o. cond_both (p o) (after_trade (min (get_or fills k 0) (standing o)) o) o (λ (x : Order). x.role ≡ o.role) (λ _. refl) (λ _. refl))
+    (λ k o h. cond_both (p o) (after_trade (min (get_or fills k 0) (standing o)) o) o (λ (x : Order). balanced x ≡ true) (λ _. balanced_traded (get_or fills k 0) o h) (λ _. h))
+    os next l)
 
 pub table_live : (t : Table) → Live (orders t) t.next
 table_live t =

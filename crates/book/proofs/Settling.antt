@@ -1,15 +1,12 @@
 -- A loop that keeps what trades leave of the orders, and what it keeps in the words of the rules.
-use Rattle.std.proofs.Common.{◌≡◌, ℕ, suc, ◌+◌, ◌<◌, ◌≤◌, Bool, true, false, cond, ltb, List, [], ◌∷◌, ◌++◌, map, length, get_or, take, drop, set, sym, refl, ap, ◌∙◌, arith}
+use Rattle.std.proofs.Common.{◌≡◌, ℕ, suc, ◌+◌, ◌<◌, ◌≤◌, min, Bool, true, false, cond, ltb, List, [], ◌∷◌, ◌++◌, map, length, get_or, take, drop, set, sym, refl, ap, ◌∙◌, arith}
 use Rattle.std.proofs.lemmas.List.{append-nil, append_assoc, take_more_set, at_drop_more, at_drop_all}
 use Rattle.std.proofs.lemmas.Bool.{cond-true, cond-false}
 use Rattle.market.specs.Words.{standing}
 use Rattle.market.specs.declared.order.Order.{Order}
-use Rattle.market.specs.declared.units.Contracts.{Contracts}
 use Rattle.rules.specs.Allocation.{after_trade, live}
-use Rattle.sharing.specs.Asked.{counts}
 use Rattle.book.specs.Places.{no_order}
-use Rattle.book.specs.Settling.{traded_by, settled}
-use Rattle.book.proofs.Trades.{no_contracts}
+use Rattle.book.specs.Settling.{traded_by, settled, Covered, traded_up_to, by_place, settled_up_to}
 
 -- ---- in the words of the rules
 
@@ -27,31 +24,54 @@ module _ (p : Order → Bool) (f : Order → ℕ) where
 
   pub settled_is : (os : List Order) (ns : List ℕ) → length os ≡ length ns → FilledBy os ns → settled p os ns ≡ live (map (λ o. cond (p o) (after_trade (f o) o) o) os)
   settled_is [] ns e h = refl
-  settled_is (o ∷ os) [] e h = absurd (none (length os) e)
-    where
-      none : (n : ℕ) → suc n ≡ 0 → ⊥
-      none n e = omega arith
+  settled_is (o ∷ os) [] e h = absurd (omega arith)
   settled_is (o ∷ os) (n ∷ ns) e h =
       let a = traded_same o n (h 0 (omega arith)) in
       let b = settled_is os ns (omega arith) (λ k lt. h (suc k) (omega arith)) in
       (λ i. cond (ltb 0 (standing (a i))) (a i ∷ b i) (b i))
 
+-- ---- fills that are covered
+
+module _ (p : Order → Bool) where
+  -- a fill of no more than stands of the order is traded whole
+  traded_whole : (o : Order) (m n : ℕ) → m ≡ n → (p o ≡ true → n ≤ standing o) → traded_up_to p m o ≡ traded_by p n o
+  traded_whole o m n e h = go (p o) h
+    where
+      go : (b : Bool) → (b ≡ true → n ≤ standing o) → cond b (after_trade (min m (standing o)) o) o ≡ cond b (after_trade n o) o
+      go true h = let le = h refl in ap (λ k. after_trade k o) {x = min m (standing o)} {y = n} (omega arith)
+      go false h = refl
+
+  settled_from : (j : ℕ) (os : List Order) (ns all : List ℕ) → length os ≡ length ns →
+      ((k : ℕ) → k < length os → get_or all (j + k) 0 ≡ get_or ns k 0) → Covered p os ns →
+      live (by_place (λ k. traded_up_to p (get_or all k 0)) j os) ≡ settled p os ns
+  settled_from j [] ns all e same h = refl
+  settled_from j (o ∷ os) [] all e same h = absurd (omega arith)
+  settled_from j (o ∷ os) (n ∷ ns) all e same h =
+      let first : get_or all j 0 ≡ n = ap (λ k. get_or all k 0) {x = j} {y = j + 0} (omega arith) ∙ same 0 (omega arith) in
+      let a = traded_whole o (get_or all j 0) n first (h 0 (omega arith)) in
+      let b = settled_from (j + 1) os ns all (omega arith)
+      (λ k lt. ap (λ i. get_or all i 0) {x = j + 1 + k} {y = j + suc k} (omega arith) ∙ same (suc k) (omega arith))
+      (λ k lt. h (suc k) (omega arith)) in
+      (λ i. cond (ltb 0 (standing (a i))) (a i ∷ b i) (b i))
+
+  pub settled_exact : (os : List Order) (ns : List ℕ) → length os ≡ length ns → Covered p os ns → settled_up_to p os ns ≡ settled p os ns
+  settled_exact os ns e h = settled_from 0 os ns ns e (λ k lt. ap (λ i. get_or ns i 0) {x = 0 + k} {y = k} (omega arith)) h
+
 -- ---- the loop: `count` orders are left of the first i
 
-module _ (p : Order → Bool) (os : List Order) (ns : List Contracts) where
+module _ (change : ℕ → Order → Order) (os : List Order) where
   abbrev pub left_from : ℕ → List Order
-  left_from i = settled p (drop i os) (counts (drop i ns))
+  left_from i = live (by_place change i (drop i os))
 
   pub record Settles (out : List Order) (count i : ℕ) : Type 0 where
-    pub front : take count out ++ left_from i ≡ settled p os (counts ns)
+    pub front : take count out ++ left_from i ≡ live (by_place change 0 os)
     pub behind : count ≤ i
 
-  module _ (even : length os ≡ length ns) (out : List Order) (count i : ℕ) (w : Settles out count i) where
-    module _ (in' : i < length os) (x : Order) (is : x ≡ traded_by p (get_or ns i no_contracts).count (get_or os i no_order)) where
+  module _ (out : List Order) (count i : ℕ) (w : Settles out count i) where
+    module _ (in' : i < length os) (x : Order) (is : x ≡ change i (get_or os i no_order)) where
       step : left_from i ≡ cond (ltb 0 (standing x)) (x ∷ left_from (i + 1)) (left_from (i + 1))
       step =
-          at_drop_more (λ (xs : List Order). settled p xs (counts (drop i ns))) os i no_order in'
-          ∙ at_drop_more (λ (xs : List Contracts). settled p (get_or os i no_order ∷ drop (i + 1) os) (counts xs)) ns i no_contracts (omega arith)
+          at_drop_more (λ (xs : List Order). live (by_place change i xs)) os i no_order in'
           ∙ ap (λ (y : Order). cond (ltb 0 (standing y)) (y ∷ left_from (i + 1)) (left_from (i + 1))) (sym is)
 
       pub settles_some : ltb 0 (standing x) ≡ true → count < length out → Settles (set out count x) (count + 1) (i + 1)
@@ -74,8 +94,8 @@ module _ (p : Order → Bool) (os : List Order) (ns : List Contracts) where
             behind = omega arith;
           }
 
-    pub settles_all : length os ≤ i → take count out ≡ settled p os (counts ns)
+    pub settles_all : length os ≤ i → take count out ≡ live (by_place change 0 os)
     settles_all le =
         sym (append-nil (take count out))
-        ∙ ap (λ zs. take count out ++ zs) (sym (at_drop_all (λ (xs : List Order). settled p xs (counts (drop i ns))) os i le))
+        ∙ ap (λ zs. take count out ++ zs) (sym (at_drop_all (λ (xs : List Order). live (by_place change i xs)) os i le))
         ∙ w.front

@@ -1,26 +1,29 @@
 -- What a taker takes, from what each step of the code leaves.
-use Rattle.std.proofs.Common.{◌≡◌, ℕ, ◌-◌, ◌<◌, ◌≤◌, Bool, true, cond, List, map, length, get_or, take, drop, filter, sym, ap, ◌∙◌, subst, arith}
+use Rattle.std.proofs.Common.{◌≡◌, ℕ, ◌-◌, ◌<◌, ◌≤◌, min, Bool, List, map, length, sum_by, take, drop, filter, sym, ap, ◌∙◌, subst, arith}
 use Rattle.std.specs.List.{AllByRecursion}
 use Rattle.std.proofs.ByRecursion.{all_kept_by}
-use Rattle.std.proofs.lemmas.List.{length-drop, length-map, take_all}
+use Rattle.std.proofs.lemmas.List.{length-drop, take_all}
 use Rattle.market.specs.Words.{standing}
 use Rattle.market.specs.declared.order.Order.{Order}
 use Rattle.market.specs.declared.order.Side.{Side}
 use Rattle.market.specs.declared.units.Contracts.{Contracts}
-use Rattle.rules.specs.Allocation.{by_priority, after_trade, live, taker_rows}
+use Rattle.rules.specs.Allocation.{by_priority, taker_rows}
+use Rattle.rules.proofs.Fills.{fill_whole, fill_within}
 use Rattle.rules.proofs.Matching.{rising_kept}
 use Rattle.rules.proofs.Sound.{Lot}
 use Rattle.sharing.specs.Asked.{counts}
-use Rattle.sharing.proofs.Counts.{length_counts}
-use Rattle.book.specs.Places.{no_order, at, orders_at}
+use Rattle.sharing.specs.Sharing.{Lawful, Sharing}
+use Rattle.book.specs.Places.{orders_at}
 use Rattle.book.specs.Ranking.{by_rank, ranked_from}
 use Rattle.book.specs.Records.{Live}
 use Rattle.book.specs.Rows.{trade_rows}
-use Rattle.book.specs.Settling.{scattered, settled}
+use Rattle.book.specs.Settling.{filled_places, settled_up_to}
+use Rattle.book.specs.Taking.{left_of, taker_fill}
 use Rattle.book.specs.declared.priority.Ranked.{Ranked}
+use Rattle.book.specs.declared.take.Taker.{Taker}
+use Rattle.book.proofs.Ranks.{long_as_kept}
 use Rattle.book.proofs.Records.{live_small, rising_from}
-use Rattle.book.proofs.Scattering.{fills_after, fills_covered, left_after}
-use Rattle.book.proofs.Stable.{length_by_priority, ranked_stand}
+use Rattle.book.proofs.Scattering.{left_up_to, places_inside}
 use Rattle.book.proofs.Trades.{rows_ranked}
 
 -- what a rule may be asked about
@@ -35,23 +38,29 @@ lot_passing p os l few = record {
 pub rest_is : {X : Type 0} (xs : List X) (start n : ℕ) → n ≡ length xs → take (n - start) (drop start xs) ≡ drop start xs
 rest_is xs start n e = take_all (n - start) (drop start xs) (omega (arith, length-drop start xs))
 
-pub ranks_few : (p : Order → Bool) (os : List Order) → length (by_rank (ranked_from p 0 os)) ≡ length (filter p os)
-ranks_few p os = sym (length-map (by_rank (ranked_from p 0 os)) (at os)) ∙ ap length (ranked_stand p os) ∙ length_by_priority (filter p os)
+-- the ranked orders from a place to the end
+module _ (p : Order → Bool) (os : List Order) (rs : List Ranked) (start n : ℕ) (long : n ≡ length rs) (ranked : drop start rs ≡ by_rank (ranked_from p 0 os)) where
+  pub rest_ranked : take (n - start) (drop start rs) ≡ by_rank (ranked_from p 0 os)
+  rest_ranked = rest_is rs start n long ∙ ranked
 
-module _ (p : Order → Bool) (f : Order → ℕ) (os : List Order) (ranked : List Ranked) (shares : List Contracts)
-    (ranks : ranked ≡ by_rank (ranked_from p 0 os)) (shared : counts shares ≡ map f (by_priority (filter p os))) where
-  pub rows_are : (s : Side) (t : ℕ) → trade_rows s t (orders_at os ranked) (counts shares) ≡ taker_rows s t f (filter p os)
-  rows_are s t = (λ i. trade_rows s t (orders_at os (ranks i)) (shared i)) ∙ rows_ranked s t p f os
+  pub rest_inside : (k : ℕ) → length os ≤ k → AllByRecursion (λ r. r.place < k) (take (n - start) (drop start rs))
+  rest_inside k le = subst (AllByRecursion (λ r. r.place < k)) (sym rest_ranked) (places_inside p os k le)
 
-  module _ (before after : List Contracts) (fit : length os ≡ length before) (written : counts after ≡ scattered ranked (counts shares) (counts before)) where
-    fills_are : counts after ≡ fills_after p f os (counts before)
-    fills_are = written ∙ (λ i. scattered (ranks i) (shared i) (counts before))
+  pub rest_long : length (take (n - start) (drop start rs)) ≡ length (filter p os)
+  rest_long = long_as_kept p os (take (n - start) (drop start rs)) rest_ranked
 
-    long : length os ≡ length (counts before)
-    long = fit ∙ sym (length_counts before)
+  -- and what each of them trades
+  module _ (f : Order → ℕ) (shares : List Contracts) (even : n ≡ length shares) (shared : counts (drop start shares) ≡ map f (by_priority (filter p os))) where
+    pub rest_shared : counts (take (n - start) (drop start shares)) ≡ map f (by_priority (filter p os))
+    rest_shared = ap counts (rest_is shares start n even) ∙ shared
 
-    pub covered : AllByRecursion (λ o. f o ≤ standing o) (filter p os) → (k : ℕ) → k < length os → p (get_or os k no_order) ≡ true → get_or (counts after) k 0 ≤ standing (get_or os k no_order)
-    covered bound k lt t = subst (λ (xs : List ℕ). get_or xs k 0 ≤ standing (get_or os k no_order)) (sym fills_are) (fills_covered p f os (counts before) long bound k lt t)
+    pub rest_rows : (s : Side) (t : ℕ) → trade_rows s t (orders_at os (take (n - start) (drop start rs))) (counts (take (n - start) (drop start shares))) ≡ taker_rows s t f (filter p os)
+    rest_rows s t = (λ i. trade_rows s t (orders_at os (rest_ranked i)) (rest_shared i)) ∙ rows_ranked s t p f os
 
-    pub left_is : settled p os (counts after) ≡ live (map (λ o. cond (p o) (after_trade (f o) o) o) os)
-    left_is = ap (settled p os) fills_are ∙ left_after p f os (counts before) long
+-- what is left once each order that passes has traded its fill, and the contracts that trade
+module _ (rule : Sharing) (lawful : Lawful rule) (os : List Order) (p : Order → Bool) (t : Taker) (l : Live os 65536) (few : length (filter p os) ≤ 160) (amounts : t.taking.amount.count ≤ 1599840) (guarantees : t.taking.guarantee.count ≤ 9999) where
+  pub taker_left : (before : List ℕ) → length os ≡ length before → settled_up_to p os (filled_places p (taker_fill rule os p t) os before) ≡ left_of rule os p t
+  taker_left before fit = left_up_to p (taker_fill rule os p t) os before fit (fill_within rule lawful (filter p os) t.taking.amount.count t.taking.marked t.taking.guarantee.count (lot_passing p os l few) amounts guarantees)
+
+  pub taker_traded : min t.taking.amount.count (sum_by standing (filter p os)) ≡ sum_by (taker_fill rule os p t) (filter p os)
+  taker_traded = sym (fill_whole rule lawful (filter p os) t.taking.amount.count t.taking.marked t.taking.guarantee.count (lot_passing p os l few) amounts guarantees)

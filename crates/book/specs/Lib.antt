@@ -1,6 +1,8 @@
+pub mod Insertion
 pub mod Filters
 pub mod Ranking
 pub mod Places
+pub mod Claims
 pub mod Pairing
 pub mod Records
 pub mod Orders
@@ -8,5 +10,7 @@ pub mod Rows
 pub mod Settling
 pub mod Taking
 pub mod Candidates
+pub mod Steps
 pub mod Rungs
+pub mod Rating
 pub mod Search

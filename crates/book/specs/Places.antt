@@ -1,6 +1,6 @@
 -- Orders by their place in a list.
-use Rattle.std.specs.Prelude.{◌≡◌, ◌<◌, ◌≤◌, List, [], ◌∷◌, map, length, None, slice_index_or}
-use Rattle.std.specs.List.{AllByRecursion}
+use Rattle.std.specs.Prelude.{◌≡◌, ◌<◌, List, map, length, None, slice_index_or}
+use Rattle.std.specs.List.Sorted.{IsNonDecreasingBy}
 use Rattle.rules.specs.Allocation.{priority}
 use Rattle.market.specs.declared.order.Account.TheVariants.{Customer}
 use Rattle.market.specs.declared.order.Order.{Order}
@@ -39,5 +39,4 @@ pub record TrueRank (os : List Order) (r : Ranked) : Type 0 where
 
 -- no later order comes before an earlier one
 abbrev pub Sorted : List Order → Type 0
-Sorted [] = Unit {0}
-Sorted (o ∷ os) = AllByRecursion (λ x. priority o ≤ priority x) os × Sorted os
+Sorted os = IsNonDecreasingBy priority os

@@ -1,20 +1,25 @@
 // What each of the ranked orders trades when an amount is taken from them.
-ghost use Rattle.std.specs.Prelude.{◌≡◌, ℕ, ◌<◌, ◌≤◌, map, length, drop, sum, filter as kept_by, ◌≢◌, slice_index};
-ghost use Rattle.std.specs.List.{AllByRecursion};
+ghost use Rattle.std.specs.Prelude.{◌≡◌, ◌==◌, All, ℕ, ◌<◌, ◌≤◌, map, length, drop, filter as kept_by};
+ghost use Rattle.std.specs.List.{AllByRecursion, prefix_len};
 ghost use Rattle.market.specs.Words.{standing};
-ghost use Rattle.rules.specs.Allocation.{by_priority, fill, level, mark_among};
+ghost use Rattle.rules.specs.Allocation.{by_priority, fill, level, mark_among, place_of};
 ghost use Rattle.rules.specs.Law.{Rising};
 ghost use Rattle.sharing.specs.Asked.{counts};
-ghost use Rattle.book.specs.Places.{orders_at, TrueRank, Sorted};
+ghost use Rattle.book.specs.Places.{orders_at, Sorted};
+ghost use Rattle.book.specs.Claims.{claimants, fill_of};
 ghost use Rattle.book.specs.Filters.{passes};
 ghost use Rattle.book.specs.Ranking.{by_rank, ranked_from, priority_at_place};
+
+mod claimed;
 
 use crate::priority::{Ranked, rank};
 use crate::room::contract_room;
 use crate::select::Filter;
+use claimed::Claimed;
 use market::order::Order;
 use market::units::Contracts;
 use sharing::rule::SharingRule;
+use sharing::sums::sum_of;
 
 // How much is taken, and which order has which guarantee.
 #[derive(Clone, Copy)]
@@ -24,149 +29,85 @@ pub struct Taking {
     pub guarantee: Contracts,
 }
 
-// Where the level that begins at `start` ends.
-fn level_end(ranked: &[Ranked], start: usize) -> usize
-    requires { start < length ranked.now }
-    ensures after { start < result }
-    ensures within { result ≤ length ranked.now }
-    ensures same { (k : ℕ) → start ≤ k → k < result → priority_at_place ranked.now k ≡ priority_at_place ranked.now start }
-    ensures apart { result < length ranked.now → priority_at_place ranked.now result ≢ priority_at_place ranked.now start }
-{
-    let priority = ranked[start].priority;
-    let mut end = start + 1;
-    while end < ranked.len() && ranked[end].priority == priority {
-        end += 1;
-    }
-    end
-}
-
-// What stands of each order.
+// Writes what stands of each order.
 fn claim(orders: &[Order], ranked: &[Ranked], claims: &mut [Contracts])
-    requires places { AllByRecursion (λ r. r.place < length orders.now) ranked.now }
+    requires places { All (λ r. r.place < length orders.now) ranked.now }
     requires even { length ranked.now ≡ length claims.old }
     ensures { counts claims.new ≡ map standing (orders_at orders.now ranked.now) }
 {
+    // By index: what is written through a zipped `iter_mut` is not known afterwards.
     for (i, r) in ranked.iter().enumerate() {
         claims[i] = orders[r.place].left;
     }
 }
 
-// The place of a marked order in a level.
-fn mark_in(orders: &[Order], level: &[Ranked], marked: Option<u16>) -> Option<usize>
-    requires { AllByRecursion (λ r. r.place < length orders.now) level.now }
-    ensures { result ≡ mark_among marked (orders_at orders.now level.now) }
+// The place of an order number among ranked orders.
+fn place_of(orders: &[Order], ranked: &[Ranked], number: u16) -> Option<usize>
+    requires { All (λ r. r.place < length orders.now) ranked.now }
+    ensures { result ≡ place_of number (orders_at orders.now ranked.now) }
 {
-    let number = marked?;
-    for (i, r) in level.iter().enumerate() {
-        if orders[r.place].number == number {
-            return Some(i);
-        }
-    }
-    None
+    ranked.iter().position(|r| orders[r.place].number == number)
 }
 
-// The contracts in a list together.
-fn sum_of(contracts: &[Contracts]) -> Contracts
-    requires few { length contracts.now ≤ 161 }
-    requires small { (k : ℕ) → slice_index (counts contracts.now) k ≤ 9999 }
-    ensures { result.count ≡ sum (counts contracts.now) }
-{
-    let mut sum = 0;
-    for c in contracts {
-        sum += c.count;
+impl Claimed<'_> {
+    // The place of the marked order.
+    fn mark(&self) -> Option<usize>
+        ensures { result ≡ mark_among self.now.taking.marked (claimants self.now) }
+    {
+        place_of(self.orders, self.ranked, self.taking.marked?)
     }
-    Contracts { count: sum }
+
+    // Asks the rule to share among these orders.
+    fn share<R: SharingRule>(&self, rule: &R, shares: &mut [Contracts])
+        requires { length shares.old ≡ length self.now.ranked.now }
+        ensures { counts shares.new ≡ R.shared rule.now (counts self.now.claims.now) self.now.taking.amount.count (mark_among self.now.taking.marked (claimants self.now)) self.now.taking.guarantee.count }
+    {
+        let taking = self.taking;
+        let mark = self.mark();
+        let _ = rule.share(self.claims, taking.amount, mark, taking.guarantee, shares);
+    }
 }
 
-// Asks the rule for the shares of one level.
-fn share_level<R: SharingRule>(
-    rule: &R,
-    orders: &[Order],
-    level: &[Ranked],
-    claims: &[Contracts],
-    taking: Taking,
-    shares: &mut [Contracts],
-)
-    requires places { AllByRecursion (λ r. r.place < length orders.now) level.now }
-    requires claimed { counts claims.now ≡ map standing (orders_at orders.now level.now) }
-    requires even { length shares.old ≡ length level.now }
-    requires few { length level.now ≤ 160 }
-    requires small { (k : ℕ) → slice_index (counts claims.now) k ≤ 9999 }
-    requires amounts { taking.amount.count ≤ 1599840 }
-    requires guarantees { taking.guarantee.count ≤ 9999 }
-    ensures { counts shares.new ≡ R.shared rule.now (counts claims.now) taking.amount.count (mark_among taking.marked (orders_at orders.now level.now)) taking.guarantee.count }
+// How many ranked orders share the priority of the first.
+fn level_len(ranked: &[Ranked]) -> usize
+    requires { 0 < length ranked.now }
+    ensures is { result ≡ prefix_len (λ r. r.priority == priority_at_place ranked.now 0) ranked.now }
+    ensures some { 0 < result }
+    ensures within { result ≤ length ranked.now }
 {
-    let mark = mark_in(orders, level, taking.marked);
-    let _ = rule.share(claims, taking.amount, mark, taking.guarantee, shares);
+    let first = ranked[0].priority;
+    ranked.iter().take_while(|r| r.priority == first).count()
 }
 
 // Asks the rule for each level in turn: a level shares what the better ones leave.
-fn share_levels<R: SharingRule>(
-    rule: &R,
-    orders: &[Order],
-    ranked: &[Ranked],
-    claims: &[Contracts],
-    taking: Taking,
-    shares: &mut [Contracts],
-)
-    requires ranks { AllByRecursion (TrueRank orders.now) ranked.now }
-    requires sorted { Sorted (orders_at orders.now ranked.now) }
-    requires rising { (r : ℕ) → Rising (λ o. o.number) 0 (level r (orders_at orders.now ranked.now)) }
-    requires claimed { counts claims.now ≡ map standing (orders_at orders.now ranked.now) }
-    requires claims_fit { length claims.now ≡ length ranked.now }
-    requires shares_fit { length shares.old ≡ length ranked.now }
-    requires few { length ranked.now ≤ 160 }
-    requires small { AllByRecursion (λ o. standing o ≤ 9999) (orders_at orders.now ranked.now) }
-    requires amounts { taking.amount.count ≤ 1599840 }
-    requires guarantees { taking.guarantee.count ≤ 9999 }
-    ensures { counts shares.new ≡ map (fill (R.shared rule.now) (orders_at orders.now ranked.now) taking.amount.count taking.marked taking.guarantee.count) (orders_at orders.now ranked.now) }
+fn share_levels<R: SharingRule>(rule: &R, all: &Claimed<'_>, shares: &mut [Contracts])
+    requires sorted { Sorted (claimants all.now) }
+    requires rising { (r : ℕ) → Rising (λ o. o.number) 0 (level r (claimants all.now)) }
+    requires even { length shares.old ≡ length all.now.ranked.now }
+    ensures { counts shares.new ≡ map (fill_of (R.shared rule.now) all.now) (claimants all.now) }
 {
-    let n = ranked.len();
     let mut start = 0;
     let mut ahead = 0;
-    while start < n {
-        let end = level_end(ranked, start);
-        let level = Taking {
+    // No `for` over `chunk_by`: it gets no proof yet in a function with a type parameter.
+    while start < all.ranked.len() {
+        let end = start + level_len(&all.ranked[start..]);
+        let claims = &all.claims[start..end];
+        let taking = Taking {
             amount: Contracts {
-                count: taking.amount.count.saturating_sub(ahead),
+                count: all.taking.amount.count.saturating_sub(ahead),
             },
-            ..taking
+            ..all.taking
         };
-        share_level(
-            rule,
-            orders,
-            &ranked[start..end],
-            &claims[start..end],
-            level,
-            &mut shares[start..end],
-        );
-        ahead += sum_of(&claims[start..end]).count;
+        let level = Claimed {
+            orders: all.orders,
+            ranked: &all.ranked[start..end],
+            claims,
+            taking,
+        };
+        level.share(rule, &mut shares[start..end]);
+        ahead += sum_of(claims).count;
         start = end;
     }
-}
-
-// What each of the ranked orders trades; the other slices are as long as they.
-fn allocate_ranked<R: SharingRule>(
-    rule: &R,
-    orders: &[Order],
-    filter: Filter,
-    ranked: &[Ranked],
-    taking: Taking,
-    claims: &mut [Contracts],
-    shares: &mut [Contracts],
-)
-    requires ranking { ranked.now ≡ by_rank (ranked_from (passes filter) 0 orders.now) }
-    requires rising { Rising (λ o. o.number) 0 orders.now }
-    requires small { AllByRecursion (λ o. standing o ≤ 9999) orders.now }
-    requires few { length (kept_by (passes filter) orders.now) ≤ 160 }
-    requires claims_fit { length ranked.now ≡ length claims.old }
-    requires shares_fit { length ranked.now ≡ length shares.old }
-    requires amounts { taking.amount.count ≤ 1599840 }
-    requires guarantees { taking.guarantee.count ≤ 9999 }
-    ensures { counts shares.new ≡ map (fill (R.shared rule.now) (kept_by (passes filter) orders.now) taking.amount.count taking.marked taking.guarantee.count) (by_priority (kept_by (passes filter) orders.now)) }
-{
-    claim(orders, ranked, claims);
-    share_levels(rule, orders, ranked, claims, taking, shares);
 }
 
 // Ranks the orders that pass, and writes what each of them trades, in that order, from the answered place on.
@@ -192,15 +133,16 @@ pub fn allocate<R: SharingRule>(
 {
     let n = orders.len();
     let start = rank(orders, filter, ranked);
-    let mut claims = contract_room();
-    allocate_ranked(
-        rule,
+    let ranked = &ranked[start..n];
+    let mut room = contract_room();
+    let claims = &mut room[start..n];
+    claim(orders, ranked, claims);
+    let claimed = Claimed {
         orders,
-        filter,
-        &ranked[start..n],
+        ranked,
+        claims,
         taking,
-        &mut claims[start..n],
-        &mut shares[start..n],
-    );
+    };
+    share_levels(rule, &claimed, &mut shares[start..n]);
     start
 }

@@ -1,7 +1,9 @@
-// The order book under the calls of a series.
+// The order book under the calls of a series. Its public functions take plain lists and slices, and say of them what they
+// ask: a type with these facts would ask more of a caller.
 #![tactic(auto)]
 
 pub mod allocation;
+mod insertion;
 mod ladder;
 pub mod opening_price;
 pub mod pairing;

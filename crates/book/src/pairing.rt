@@ -19,18 +19,19 @@ pub fn pair(buyers: &[Filled], sellers: &[Filled], price: Cents, rows: &mut [Row
     ensures counted { result ≡ length (pairing_rows price.value buyers.now sellers.now) }
     ensures written { rows.new ≡ pairing_rows price.value buyers.now sellers.now ++ drop result rows.old }
 {
-    let mut count: usize = 0;
-    let mut at: usize = 0;
+    let mut count = 0;
+    let mut rest = sellers;
     let mut sold = Contracts::NONE;
+    // One function with two loops, which a label leaves together, is a rule of this project.
     'pairing: for buyer in buyers {
         let mut unpaired = buyer.contracts;
         while unpaired.count > 0 {
-            if at == sellers.len() {
+            let Some((seller, later)) = rest.split_first() else {
                 break 'pairing;
-            }
-            let seller = sellers[at];
+            };
+            // By their counts: with `sold == seller.contracts` the proof of the sum below did not close.
             if sold.count == seller.contracts.count {
-                at += 1;
+                rest = later;
                 sold = Contracts::NONE;
                 continue;
             }

@@ -1,4 +1,4 @@
-// Room for the records of one series.
+// Room for the records of one series, in arrays: the project uses no heap here.
 use crate::priority::Ranked;
 use market::order::{Account, Order, OrderKind, Role, Side};
 use market::units::{Cents, Contracts};

@@ -27,14 +27,15 @@ pub fn write_trades(
     ensures few { result ≤ length ranked.now }
 {
     let mut count = 0;
-    for (i, r) in ranked.iter().enumerate() {
-        let contracts = shares[i];
-        let trades = contracts.count > 0;
-        if trades {
-            let order = orders[r.place];
-            rows[count] = Row::trade(side, taker, order.number, order.kind.price(), contracts);
-            count += 1;
-        }
+    // By index: what is written through a zipped `iter_mut` is not known afterwards.
+    for (r, contracts) in ranked
+        .iter()
+        .zip(shares)
+        .filter(|(_, contracts)| contracts.count > 0)
+    {
+        let order = &orders[r.place];
+        rows[count] = Row::trade(side, taker, order.number, order.kind.price(), *contracts);
+        count += 1;
     }
     count
 }

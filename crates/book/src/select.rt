@@ -1,7 +1,7 @@
 // Filters on orders, and walks over a list of orders by one of them.
-ghost use Rattle.std.specs.Prelude.{◌≡◌, ℕ, ◌≤◌, length, take, sum_by, count_by, filter as kept_by};
+ghost use Rattle.std.specs.Prelude.{◌≡◌, ◌≤◌, length, take, sum_by, count_by, filter as kept_by};
 ghost use Rattle.std.specs.List.{AllByRecursion};
-ghost use Rattle.market.specs.Words.{standing, price_of};
+ghost use Rattle.market.specs.Words.{standing};
 ghost use Rattle.rules.specs.Prices.{within};
 ghost use Rattle.rules.specs.Series.{due, found};
 ghost use Rattle.rules.specs.Volume.{willing, of_order};
@@ -10,7 +10,7 @@ ghost use Rattle.book.specs.Filters.{passes};
 use market::order::{Order, OrderKind, Side};
 use market::units::{Cents, Contracts, Millis};
 
-// What is asked of an order.
+// What is asked of an order. It is an enum and no closure: contracts cite what each case keeps by its name.
 #[derive(Clone, Copy)]
 pub enum Filter {
     Numbered(u16),
@@ -20,6 +20,8 @@ pub enum Filter {
     Lasting(Millis),
     InBook,
     Outside,
+    // the customer's order of an auction
+    Auctioned,
     // an auction order that is not the customer's
     AuctionContra,
     // on the other side
@@ -28,8 +30,10 @@ pub enum Filter {
     BookContra(Side),
     // an order of the book on the other side, at this price or a better one for the taker
     Reachable(Side, Cents),
-    // a buyer or seller that trades at this price
+    // an order of that side that trades at this price
     Willing(Side, Cents),
+    // a buyer or a seller that trades at this price
+    Crossed(Cents),
     // this member's order of the book under this number
     OwnedBy(u16, u16),
     // this member's competing order under this number
@@ -40,11 +44,7 @@ pub enum Filter {
 fn is_due(exposed: Option<Millis>, time: Millis) -> bool
     ensures { result ≡ due time.count exposed }
 {
-    match exposed {
-        Some(end) if end.count <= time.count => true,
-        Some(_) => false,
-        None => false,
-    }
+    exposed.is_some_and(|end| end <= time)
 }
 
 // Whether a price is no worse than the bound for a taker on that side.
@@ -52,26 +52,21 @@ fn is_within(taker: Side, bound: Cents, price: Cents) -> bool
     ensures { result ≡ within taker bound.value price.value }
 {
     match taker {
-        Side::Buy => price.value <= bound.value,
-        Side::Sell => bound.value <= price.value,
+        Side::Buy => price <= bound,
+        Side::Sell => bound <= price,
     }
 }
 
-// Whether an order of that side trades at a price.
+// Whether an order of that side trades at a price. A guard on the kind decides, as a rule of this project has it.
 pub fn is_willing(order: &Order, side: Side, price: Cents) -> bool
     ensures { result ≡ willing side price.value (of_order order.now) }
 {
-    if !order.side.is(side) {
-        return false;
-    }
-    match (side, order.kind) {
-        (Side::Buy, OrderKind::Limit(limit)) if price.value <= limit.value => true,
-        (Side::Sell, OrderKind::Limit(limit)) if limit.value <= price.value => true,
-        (Side::Buy, OrderKind::Limit(_)) => false,
-        (Side::Sell, OrderKind::Limit(_)) => false,
-        (Side::Buy, OrderKind::MarketOnOpening) => true,
-        (Side::Sell, OrderKind::MarketOnOpening) => true,
-    }
+    order.side.is(side)
+        && match order.kind {
+            OrderKind::Limit(limit) if is_within(side, limit, price) => true,
+            OrderKind::Limit(_) => false,
+            OrderKind::MarketOnOpening => true,
+        }
 }
 
 impl Filter {
@@ -85,6 +80,7 @@ impl Filter {
             Filter::Lasting(time) => !is_due(order.exposed, time),
             Filter::InBook => order.role.is_in_book(),
             Filter::Outside => !order.role.is_in_book(),
+            Filter::Auctioned => order.role.is_auctioned(),
             Filter::AuctionContra => !(order.role.is_in_book() || order.role.is_auctioned()),
             Filter::Contra(side) => order.side.is(side.other()),
             Filter::BookContra(side) => order.side.is(side.other()) && order.role.is_in_book(),
@@ -92,6 +88,7 @@ impl Filter {
                 && order.role.is_in_book()
                 && is_within(side, bound, order.kind.price()),
             Filter::Willing(side, price) => is_willing(order, side, price),
+            Filter::Crossed(price) => is_willing(order, order.side, price),
             Filter::OwnedBy(member, number) => order.number == number
                 && order.member == member
                 && order.role.is_in_book(),
@@ -110,11 +107,10 @@ pub fn pick(orders: &[Order], filter: Filter, out: &mut [Order]) -> usize
     ensures few { result ≤ length orders.now }
 {
     let mut count = 0;
-    for order in orders {
-        if filter.passes(order) {
-            out[count] = *order;
-            count += 1;
-        }
+    // By index: what is written through a zipped `iter_mut` is not known afterwards.
+    for order in orders.iter().filter(|order| filter.passes(order)) {
+        out[count] = *order;
+        count += 1;
     }
     count
 }
@@ -123,38 +119,27 @@ pub fn pick(orders: &[Order], filter: Filter, out: &mut [Order]) -> usize
 pub fn count(orders: &[Order], filter: Filter) -> usize
     ensures { result ≡ count_by (passes filter) orders.now }
 {
-    let mut total = 0;
-    for order in orders {
-        if filter.passes(order) {
-            total += 1;
-        }
-    }
-    total
+    orders.iter().filter(|order| filter.passes(order)).count()
 }
 
-// The contracts that stand of the orders that pass.
+// The contracts that stand of the orders that pass. It asks this of a plain list: see the crate's head.
 pub fn volume(orders: &[Order], filter: Filter) -> Contracts
     requires few { length orders.now ≤ 161 }
     requires small { AllByRecursion (λ o. standing o ≤ 9999) orders.now }
     ensures { result.count ≡ sum_by standing (kept_by (passes filter) orders.now) }
 {
-    let mut sum = 0;
-    for order in orders {
-        if filter.passes(order) {
-            sum += order.left.count;
-        }
+    Contracts {
+        count: orders
+            .iter()
+            .filter(|order| filter.passes(order))
+            .map(|order| order.left.count)
+            .sum(),
     }
-    Contracts { count: sum }
 }
 
 // The first order that passes.
 pub fn find(orders: &[Order], filter: Filter) -> Option<Order>
     ensures { result ≡ found (passes filter) orders.now }
 {
-    for order in orders {
-        if filter.passes(order) {
-            return Some(*order);
-        }
-    }
-    None
+    orders.iter().find(|order| filter.passes(order)).copied()
 }

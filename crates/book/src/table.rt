@@ -7,7 +7,8 @@ use market::order::Order;
 
 mod changes;
 
-// The first `count` records are live, in rising order of their numbers, all below `next`.
+// The first `count` records are live, in rising order of their numbers, all below `next`. They stand in an array and no
+// Vec: the project uses no heap here.
 #[derive(Clone, Copy)]
 pub struct Table {
     records: [Order; 161],

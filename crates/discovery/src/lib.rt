@@ -1,5 +1,4 @@
 // Price discovery: demand and supply at a price, and the opening price.
 #![tactic(auto)]
 
-mod ladder;
 pub mod opening_price;

@@ -3,7 +3,7 @@ ghost use Rattle.std.specs.Prelude.{◌≡◌};
 ghost use Rattle.market.specs.Refusals.{refused_by, first_hit};
 ghost use Rattle.market.specs.Spans.{price_in_span, on_grid, size_in_span, price_checks, grid_checks, size_checks};
 
-use crate::refusal::Refusal;
+use crate::refusal::{Refusal, refuse_if};
 use crate::units::{Cents, Contracts};
 
 pub const HIGHEST_PRICE: u32 = 99_999;
@@ -37,22 +37,17 @@ impl Cents {
         self.is_price() && self.value % step == 0
     }
 
+    // The three checks differ in what they ask and by what they refuse, and are a line each.
     pub fn check_price(self) -> Result<(), Refusal>
         ensures { refused_by result ≡ first_hit (price_checks self.value) }
     {
-        if !self.is_price() {
-            return Err(Refusal::BadPrice);
-        }
-        Ok(())
+        refuse_if(!self.is_price(), Refusal::BadPrice)
     }
 
     pub fn check_on_grid(self) -> Result<(), Refusal>
         ensures { refused_by result ≡ first_hit (grid_checks self.value) }
     {
-        if !self.is_on_grid() {
-            return Err(Refusal::BadPrice);
-        }
-        Ok(())
+        refuse_if(!self.is_on_grid(), Refusal::BadPrice)
     }
 }
 
@@ -67,9 +62,6 @@ impl Contracts {
     pub fn check_size(self) -> Result<(), Refusal>
         ensures { refused_by result ≡ first_hit (size_checks self.count) }
     {
-        if !self.is_size() {
-            return Err(Refusal::BadSize);
-        }
-        Ok(())
+        refuse_if(!self.is_size(), Refusal::BadSize)
     }
 }

@@ -2,7 +2,9 @@
 ghost use Rattle.std.specs.Prelude.{◌≡◌};
 ghost use Rattle.market.specs.Words.{other, same_side, market_maker, in_book, auctioned, competing, price_of};
 
+use crate::row::NO_PRICE;
 use crate::units::{Cents, Contracts, Millis};
+use std::fmt;
 
 #[derive(Clone, Copy, PartialEq, Eq, Debug)]
 pub enum Side {
@@ -18,7 +20,8 @@ pub enum Account {
     MarketMaker,
 }
 
-// A limit with its price, or an order that trades at whatever price the series opens at.
+// A limit with its price, or an order that trades at whatever price the series opens at. It is an enum of its own and no
+// Option, as a rule of this project: the case without a price has a name.
 #[derive(Clone, Copy, PartialEq, Eq, Debug)]
 pub enum OrderKind {
     Limit(Cents),
@@ -66,23 +69,18 @@ impl Side {
     pub fn is(self, side: Side) -> bool
         ensures { result ≡ same_side self side }
     {
-        match (self, side) {
-            (Side::Buy, Side::Buy) => true,
-            (Side::Buy, Side::Sell) => false,
-            (Side::Sell, Side::Buy) => false,
-            (Side::Sell, Side::Sell) => true,
-        }
+        self == side
     }
 }
 
 impl OrderKind {
-    // The price of a limit, and 0 without one.
+    // The price of a limit, and 0 without one, as rows write it.
     pub fn price(self) -> Cents
         ensures { result.value ≡ price_of self }
     {
         match self {
             OrderKind::Limit(price) => price,
-            OrderKind::MarketOnOpening => Cents { value: 0 },
+            OrderKind::MarketOnOpening => NO_PRICE,
         }
     }
 }
@@ -91,11 +89,7 @@ impl Account {
     pub fn is_market_maker(self) -> bool
         ensures { result ≡ market_maker self }
     {
-        match self {
-            Account::Customer => false,
-            Account::Linkage => false,
-            Account::MarketMaker => true,
-        }
+        self == Account::MarketMaker
     }
 }
 
@@ -103,33 +97,34 @@ impl Role {
     pub fn is_in_book(self) -> bool
         ensures { result ≡ in_book self }
     {
-        match self {
-            Role::Book => true,
-            Role::Auctioned => false,
-            Role::Starter => false,
-            Role::Competing => false,
-        }
+        self == Role::Book
     }
 
     pub fn is_auctioned(self) -> bool
         ensures { result ≡ auctioned self }
     {
-        match self {
-            Role::Book => false,
-            Role::Auctioned => true,
-            Role::Starter => false,
-            Role::Competing => false,
-        }
+        self == Role::Auctioned
     }
 
     pub fn is_competing(self) -> bool
         ensures { result ≡ competing self }
     {
-        match self {
-            Role::Book => false,
-            Role::Auctioned => false,
-            Role::Starter => false,
-            Role::Competing => true,
-        }
+        self == Role::Competing
+    }
+}
+
+// The letter by which rows and journals name an account.
+impl fmt::Display for Account {
+    ghost use Rattle.std.specs.Prelude.{Some, codes};
+    ghost use Rattle.market.specs.declared.order.Account.TheVariants.{Customer, Linkage, MarketMaker};
+
+    ghost output = { λ a. Some (elim a [ Customer ↦ codes "C" | Linkage ↦ codes "L" | MarketMaker ↦ codes "M" ]) };
+
+    fn fmt<W: fmt::Write>(&self, f: &mut fmt::Formatter<W>) -> fmt::Result {
+        f.write_str(match self {
+            Account::Customer => "C",
+            Account::Linkage => "L",
+            Account::MarketMaker => "M",
+        })
     }
 }

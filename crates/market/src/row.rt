@@ -4,6 +4,7 @@ ghost use Rattle.market.specs.Words.{trade, departure};
 
 use crate::order::Side;
 use crate::units::{Cents, Contracts};
+use std::fmt;
 
 #[derive(Clone, Copy, PartialEq, Eq, Debug)]
 pub enum RowKind {
@@ -16,6 +17,9 @@ pub enum RowKind {
     // W: withdrawn
     Withdrawn,
 }
+
+// The price of a row that has none, as members read it.
+pub const NO_PRICE: Cents = Cents { value: 0 };
 
 // A trade names the buyer's order first and the seller's second. Any other row names its order first, and 0 second.
 #[derive(Clone, Copy, PartialEq, Eq, Debug)]
@@ -56,5 +60,22 @@ impl Row {
             price,
             contracts,
         }
+    }
+}
+
+// The letter by which a row shows its kind.
+impl fmt::Display for RowKind {
+    ghost use Rattle.std.specs.Prelude.{Some, codes};
+    ghost use Rattle.market.specs.declared.row.RowKind.TheVariants.{Trade, Sent, Returned, Withdrawn};
+
+    ghost output = { λ k. Some (elim k [ Trade ↦ codes "T" | Sent ↦ codes "S" | Returned ↦ codes "R" | Withdrawn ↦ codes "W" ]) };
+
+    fn fmt<W: fmt::Write>(&self, f: &mut fmt::Formatter<W>) -> fmt::Result {
+        f.write_str(match self {
+            RowKind::Trade => "T",
+            RowKind::Sent => "S",
+            RowKind::Returned => "R",
+            RowKind::Withdrawn => "W",
+        })
     }
 }

@@ -1,22 +1,24 @@
 // Prices, sizes and times, each a type of its own.
-ghost use Rattle.std.specs.Prelude.{◌≡◌, ◌+◌, ◌-◌, ◌^◌, ◌<◌, ◌≤◌, min};
+ghost use Rattle.std.specs.Prelude.{◌≡◌, ◌+◌, ◌-◌, ◌^◌, ◌<◌, ◌≤◌, Some, decimal, min};
+ghost use Rattle.std.specs.Fmt.{styled_decimal};
 
+use std::fmt;
 use std::ops::{Add, Sub, SubAssign};
 
 // A price in cents.
-#[derive(Clone, Copy, PartialEq, Eq, Debug)]
+#[derive(Clone, Copy, PartialEq, Eq, PartialOrd, Ord, Debug)]
 pub struct Cents {
     pub value: u32,
 }
 
 // A count of contracts.
-#[derive(Clone, Copy, PartialEq, Eq, Debug)]
+#[derive(Clone, Copy, PartialEq, Eq, PartialOrd, Ord, Debug)]
 pub struct Contracts {
     pub count: u32,
 }
 
 // A time: the milliseconds since the day began.
-#[derive(Clone, Copy, PartialEq, Eq, Debug)]
+#[derive(Clone, Copy, PartialEq, Eq, PartialOrd, Ord, Debug)]
 pub struct Millis {
     pub count: u32,
 }
@@ -28,14 +30,11 @@ impl Contracts {
     pub fn min(self, other: Contracts) -> Contracts
         ensures { result.count ≡ min self.count other.count }
     {
-        if self.count < other.count {
-            self
-        } else {
-            other
-        }
+        Ord::min(self, other)
     }
 }
 
+// The operators are written out, since they have no derive.
 impl Add<Contracts> for Contracts {
     type Output = Contracts;
 
@@ -71,5 +70,36 @@ impl SubAssign<Contracts> for Contracts {
 
     fn sub_assign(&mut self, rhs: Contracts) {
         self.count -= rhs.count;
+    }
+}
+
+// The number alone, as of a count or a time.
+impl fmt::Display for Cents {
+    ghost output = { λ x. Some (decimal x.value) };
+
+    ghost styled_output = { λ x style. Some (styled_decimal style x.value) };
+
+    fn fmt<W: fmt::Write>(&self, f: &mut fmt::Formatter<W>) -> fmt::Result {
+        fmt::Display::fmt(&self.value, f)
+    }
+}
+
+impl fmt::Display for Contracts {
+    ghost output = { λ x. Some (decimal x.count) };
+
+    ghost styled_output = { λ x style. Some (styled_decimal style x.count) };
+
+    fn fmt<W: fmt::Write>(&self, f: &mut fmt::Formatter<W>) -> fmt::Result {
+        fmt::Display::fmt(&self.count, f)
+    }
+}
+
+impl fmt::Display for Millis {
+    ghost output = { λ x. Some (decimal x.count) };
+
+    ghost styled_output = { λ x style. Some (styled_decimal style x.count) };
+
+    fn fmt<W: fmt::Write>(&self, f: &mut fmt::Formatter<W>) -> fmt::Result {
+        fmt::Display::fmt(&self.count, f)
     }
 }

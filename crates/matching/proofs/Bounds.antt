@@ -1,12 +1,13 @@
 -- What is known of an input that the checks accept, and parts of lists.
-use Rattle.std.proofs.Common.{◌≡◌, ℕ, ◌-◌, ◌≤◌, Bool, true, false, not, ◌&&◌, leb, List, [], ◌∷◌, ◌++◌, length, take, drop, None, count_by, refl, arith}
-use Rattle.std.proofs.lemmas.List.{length-append, take_at}
+use Rattle.std.proofs.Common.{◌≡◌, ℕ, ◌-◌, ◌≤◌, Bool, true, false, not, ◌&&◌, leb, List, [], ◌∷◌, ◌++◌, length, take, drop, None, count_by, refl, ap, ◌∙◌, arith}
+use borrow.Rule.Slice.PartMut.{put_mid}
+use Rattle.std.proofs.lemmas.List.{append-nil, drop_all, drop_at, length-drop, length-take-le}
 use Rattle.std.proofs.lemmas.Bool.{and_parts, leb-true}
 use Rattle.market.specs.Refusals.{first_hit}
 use Rattle.market.specs.declared.order.Order.{Order}
 use Rattle.matching.specs.Matching.{opening_checks}
 use Rattle.matching.specs.Taking.{taking_checks}
-use Rattle.matching.specs.declared.allocation.Taking.{Taking}
+use Rattle.book.specs.declared.allocation.Taking.{Taking}
 
 -- a single check that does not hit
 unhit : (n : ℕ) (b : Bool) → None ≡ first_hit ((n, not b) ∷ []) → b ≡ true
@@ -39,10 +40,9 @@ opening_bounds orders p rows e =
     let x = and_parts (leb orders 160) (leb orders rows) b.0 in
     record { claims = leb-true _ _ x.0; rows_fit = leb-true _ _ x.1; price = leb-true _ _ b.1 }
 
--- the front of a list that was lent and written
-module _ {X : Type 0} (written room : List X) (n : ℕ) (kept : length written ≡ length (take (n - 0) room)) (fit : n ≡ length (take (n - 0) room)) where
-  pub front_fits : n ≤ length (written ++ drop (n - 0) room)
-  front_fits = omega (arith, length-append written (drop (n - 0) room), kept, fit)
-
-  pub front_is : take (n - 0) (written ++ drop (n - 0) room) ≡ written
-  front_is = take_at written (drop (n - 0) room) (n - 0) (omega (arith, kept, fit))
+-- what is written over the part of a list from a place to its end
+pub rest_written : {X : Type 0} (xs ys : List X) (start n : ℕ) → start ≤ n → n ≡ length xs → drop start (put_mid start (n - start) xs ys) ≡ ys
+rest_written xs ys start n le e =
+    drop_at (take start xs) (ys ++ drop (n - start) (drop start xs)) start (length-take-le start xs (omega arith))
+    ∙ ap (λ zs. ys ++ zs) (drop_all (n - start) (drop start xs) (omega (arith, length-drop start xs)))
+    ∙ append-nil ys

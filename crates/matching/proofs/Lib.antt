@@ -1,13 +1,3 @@
-pub mod Sorting
-pub mod Stable
-pub mod Levels
-pub mod Finding
-pub mod Dividing
-pub mod InTurn
-pub mod PairingLoop
-pub mod Trades
-pub mod Scattering
-pub mod Takings
 pub mod Bounds
 pub mod Listing
 pub mod Opened

@@ -9,9 +9,9 @@ use Rattle.market.specs.declared.row.Row.{Row}
 use Rattle.rules.specs.Opening.{opening_fill, opening_rows, opened_orders}
 use Rattle.rules.specs.Volume.{willing, of_order}
 use Rattle.sharing.specs.Sharing.{Sharing}
-use Rattle.order_table.specs.Orders.{orders}
+use Rattle.order_table.specs.Orders.{orders, next_number}
 use Rattle.order_table.specs.declared.table.Table.{Table}
-use Rattle.matching.specs.Scattering.{filled_places}
+use Rattle.book.specs.Settling.{filled_places}
 
 -- each order's number with its contracts
 abbrev pub numbered_fills : List Order → List ℕ → List (ℕ × ℕ)
@@ -36,7 +36,7 @@ pub record Opened (rule : Sharing) (p : ℕ) (before after : Table) (old new : L
   pub counted : count ≡ length (opening_rows rule (orders before) p)
   pub written : new ≡ opening_rows rule (orders before) p ++ drop count old
   pub left : orders after ≡ opened_orders rule (orders before) p
-  pub numbers : after.next ≡ before.next
+  pub numbers : next_number after ≡ next_number before
 
 -- a refused opening changes nothing
 pub record Opens (rule : Sharing) (p : ℕ) (before after : Table) (old new : List Row) (answer : Result ℕ Refusal) : Type 0 where

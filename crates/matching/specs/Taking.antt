@@ -1,28 +1,16 @@
--- What a taker takes from the orders that pass.
-use Rattle.std.specs.Prelude.{◌≡◌, ℕ, ◌≤◌, Bool, cond, not, ◌&&◌, List, [], ◌∷◌, ◌++◌, map, length, drop, sum_by, count_by, filter, Result, MatchResult, nat_le}
+-- A taker that takes from the table, or is refused.
+use Rattle.std.specs.Prelude.{◌≡◌, ℕ, ◌≤◌, Bool, not, ◌&&◌, List, [], ◌∷◌, ◌++◌, length, drop, sum_by, count_by, filter, Result, MatchResult, nat_le}
 use Rattle.market.specs.Refusals.{refused_by, first_hit}
 use Rattle.market.specs.declared.order.Order.{Order}
 use Rattle.market.specs.declared.refusal.Refusal.{Refusal}
 use Rattle.market.specs.declared.row.Row.{Row}
-use Rattle.rules.specs.Allocation.{fill, taker_rows, after_trade, live}
 use Rattle.sharing.specs.Sharing.{Sharing}
-use Rattle.order_table.specs.Orders.{orders}
+use Rattle.order_table.specs.Orders.{orders, next_number}
 use Rattle.order_table.specs.declared.table.Table.{Table}
-use Rattle.matching.specs.declared.allocation.Taking.{Taking}
+use Rattle.book.specs.declared.allocation.Taking.{Taking}
 use Rattle.matching.specs.declared.take.Taken.{Taken}
-use Rattle.matching.specs.declared.take.Taker.{Taker}
-
-module _ (rule : Sharing) (os : List Order) (p : Order → Bool) (t : Taker) where
-  -- what an order that passes trades
-  abbrev pub taker_fill : Order → ℕ
-  taker_fill = fill rule (filter p os) t.taking.amount.count t.taking.marked t.taking.guarantee.count
-
-  abbrev pub trades_of : List Row
-  trades_of = taker_rows t.side t.number taker_fill (filter p os)
-
-  -- the orders after it
-  abbrev pub left_of : List Order
-  left_of = live (map (λ o. cond (p o) (after_trade (taker_fill o) o) o) os)
+use Rattle.book.specs.declared.take.Taker.{Taker}
+use Rattle.book.specs.Taking.{taker_fill, trades_of, left_of}
 
 -- refusal 7: over 160 orders that pass, or more than rows, or an amount or a guarantee that no rule accepts
 abbrev pub taking_checks : List Order → (Order → Bool) → Taking → ℕ → List (ℕ × Bool)
@@ -35,7 +23,7 @@ pub record Took (rule : Sharing) (p : Order → Bool) (t : Taker) (before after 
   pub written : new ≡ trades_of rule (orders before) p t ++ drop taken.rows old
   pub few : taken.rows ≤ count_by p (orders before)
   pub left : orders after ≡ left_of rule (orders before) p t
-  pub numbers : after.next ≡ before.next
+  pub numbers : next_number after ≡ next_number before
   pub traded : taken.traded.count ≡ sum_by (taker_fill rule (orders before) p t) (filter p (orders before))
 
 -- a refused taker changes nothing

@@ -1,36 +1,49 @@
 // The opening match.
-ghost use Rattle.std.specs.Prelude.{◌≡◌, ◌<◌, ◌≤◌, ◌++◌, map, length, drop, filter as kept_by};
+ghost use Rattle.std.specs.Prelude.{◌≡◌, ◌<◌, ◌≤◌, ◌++◌, map, length, drop};
+ghost use Rattle.std.proofs.Props.{props};
 ghost use Rattle.std.specs.List.{AllByRecursion};
 ghost use Rattle.market.specs.Refusals.{refused_by, first_hit};
 ghost use Rattle.rules.specs.Opening.{filled, opening_fill, opening_rows};
 ghost use Rattle.rules.specs.Volume.{matched_volume, of_order};
 ghost use Rattle.sharing.specs.Asked.{counts};
+ghost use Rattle.book.specs.Pairing.{filled_pair};
+ghost use Rattle.book.specs.Places.{orders_at};
+ghost use Rattle.book.specs.Records.{Live};
+ghost use Rattle.book.specs.Settling.{filled_places};
 ghost use Rattle.order_table.specs.Orders.{orders};
-ghost use Rattle.order_table.specs.Records.{Live};
 ghost use Rattle.matching.specs.Matching.{numbered_fills, wills, both_filled, opening_checks, Opens};
-ghost use Rattle.matching.specs.Pairing.{filled_pair};
-ghost use Rattle.matching.specs.Places.{orders_at};
-ghost use Rattle.matching.specs.Scattering.{filled_places};
 
-use crate::allocation::{Taking, allocate};
-use crate::fills::scatter;
-use crate::pairing::{Filled, pair};
-use crate::priority::Ranked;
-use crate::room::{contract_room, filled_room, rank_room};
+use book::allocation::{Taking, allocate};
+use book::pairing::{Filled, pair};
+use book::priority::Ranked;
+use book::room::{contract_room, rank_room};
+use book::select::Filter;
+use book::settle::scatter;
 use market::checks::HIGHEST_PRICE;
 use market::order::{Order, Side};
 use market::refusal::Refusal;
 use market::row::Row;
 use market::units::{Cents, Contracts};
-use order_table::select::Filter;
 use order_table::table::Table;
 use sharing::rule::{MOST_CLAIMS, SharingRule};
 
-// A price and the contracts that trade at it.
+// The orders of an opening, its price, and the contracts that trade there.
 #[derive(Clone, Copy)]
-struct Opening {
+struct Opening<'a> {
+    orders: &'a [Order],
     price: Cents,
     quantity: Contracts,
+    ghost live: { Live orders.now 65536 } by { Prim.hlevel props },
+    ghost few: { length orders.now ≤ 160 },
+    ghost opens: { quantity.count ≡ matched_volume of_order orders.now price.value },
+}
+
+// Room for as many fills as a table holds orders, in an array: no heap. What it has at first plays no part.
+fn filled_room() -> [Filled; 161] {
+    [Filled {
+        number: 0,
+        contracts: Contracts::NONE,
+    }; 161]
 }
 
 // Lists the ranked orders by number with what each trades.
@@ -40,53 +53,63 @@ fn list_fills(orders: &[Order], ranked: &[Ranked], shares: &[Contracts], filled:
     requires room { length ranked.now ≡ length filled.old }
     ensures { map filled_pair filled.new ≡ numbered_fills (orders_at orders.now ranked.now) (counts shares.now) }
 {
-    for (i, r) in ranked.iter().enumerate() {
+    // By index: what is written through a zipped `iter_mut` is not known afterwards.
+    for (i, (r, share)) in ranked.iter().zip(shares).enumerate() {
         filled[i] = Filled {
             number: orders[r.place].number,
-            contracts: shares[i],
+            contracts: *share,
         };
     }
 }
 
-// Fills one side: lists the orders willing at the price with what each trades, and writes that to their places.
-fn fill_side<R: SharingRule>(
-    rule: &R,
-    orders: &[Order],
-    side: Side,
-    opening: Opening,
-    ranked: &mut [Ranked],
-    shares: &mut [Contracts],
-    traders: &mut [Filled],
-    fills: &mut [Contracts],
-) -> usize
-    requires live { Live orders.now 65536 }
-    requires few { length (kept_by (wills side opening.price.value) orders.now) ≤ 160 }
-    requires ranked_fit { length orders.now ≡ length ranked.old }
-    requires shares_fit { length orders.now ≡ length shares.old }
-    requires traders_fit { length orders.now ≡ length traders.old }
-    requires fills_fit { length orders.now ≡ length fills.old }
-    requires opens { opening.quantity.count ≡ matched_volume of_order orders.now opening.price.value }
-    requires amounts { opening.quantity.count ≤ 1599840 }
-    ensures within { result ≤ length orders.now }
-    ensures listed { map filled_pair (drop result traders.new) ≡ filled (R.shared rule.now) orders.now opening.price.value side }
-    ensures placed { counts fills.new ≡ filled_places (wills side opening.price.value) (opening_fill (R.shared rule.now) orders.now opening.price.value side) orders.now (counts fills.old) }
-{
-    let n = orders.len();
-    let taking = Taking {
-        amount: opening.quantity,
-        marked: None,
-        guarantee: Contracts::NONE,
-    };
-    let filter = Filter::Willing(side, opening.price);
-    let start = allocate(rule, orders, filter, taking, ranked, shares);
-    list_fills(
-        orders,
-        &ranked[start..n],
-        &shares[start..n],
-        &mut traders[start..n],
-    );
-    scatter(&ranked[start..n], &shares[start..n], fills);
-    start
+impl Opening<'_> {
+    // Fills one side: lists the orders willing at the price with what each trades, and writes that to their places.
+    fn fill_side<R: SharingRule>(
+        &self,
+        rule: &R,
+        side: Side,
+        traders: &mut [Filled],
+        fills: &mut [Contracts],
+    ) -> usize
+        requires traders_fit { length self.now.orders.now ≡ length traders.old }
+        requires fills_fit { length self.now.orders.now ≡ length fills.old }
+        ensures within { result ≤ length self.now.orders.now }
+        ensures listed { map filled_pair (drop result traders.new) ≡ filled (R.shared rule.now) self.now.orders.now self.now.price.value side }
+        ensures placed { counts fills.new ≡ filled_places (wills side self.now.price.value) (opening_fill (R.shared rule.now) self.now.orders.now self.now.price.value side) self.now.orders.now (counts fills.old) }
+    {
+        let n = self.orders.len();
+        let taking = Taking {
+            amount: self.quantity,
+            marked: None,
+            guarantee: Contracts::NONE,
+        };
+        let filter = Filter::Willing(side, self.price);
+        let mut ranks = rank_room();
+        let mut shares = contract_room();
+        let (ranks, shares) = (&mut ranks[0..n], &mut shares[0..n]);
+        let start = allocate(rule, self.orders, filter, taking, ranks, shares);
+        let (ranked, shares) = (&ranks[start..n], &shares[start..n]);
+        list_fills(self.orders, ranked, shares, &mut traders[start..n]);
+        scatter(ranked, shares, fills);
+        start
+    }
+
+    // Writes the rows of an opening, and what each order trades to its place.
+    fn write<R: SharingRule>(&self, rule: &R, fills: &mut [Contracts], rows: &mut [Row]) -> usize
+        requires fills_fit { length self.now.orders.now ≡ length fills.old }
+        requires rows_fit { length self.now.orders.now ≤ length rows.old }
+        ensures counted { result ≡ length (opening_rows (R.shared rule.now) self.now.orders.now self.now.price.value) }
+        ensures written { rows.new ≡ opening_rows (R.shared rule.now) self.now.orders.now self.now.price.value ++ drop result rows.old }
+        ensures filled { counts fills.new ≡ both_filled (R.shared rule.now) self.now.orders.now self.now.price.value (counts fills.old) }
+    {
+        let n = self.orders.len();
+        let mut buyers = filled_room();
+        let mut sellers = filled_room();
+        let (buyers, sellers) = (&mut buyers[0..n], &mut sellers[0..n]);
+        let buyer = self.fill_side(rule, Side::Buy, buyers, fills);
+        let seller = self.fill_side(rule, Side::Sell, sellers, fills);
+        pair(&buyers[buyer..n], &sellers[seller..n], self.price, rows)
+    }
 }
 
 // Refuses more orders than a rule can be asked about or than there are rows, and a price that is none.
@@ -97,60 +120,6 @@ fn check_opening(orders: usize, price: Cents, rows: usize) -> Result<(), Refusal
         return Err(Refusal::OutOfBounds);
     }
     Ok(())
-}
-
-// Writes the rows of an opening, and what each order trades to its place; the other slices are as long as the orders.
-fn write_opening<R: SharingRule>(
-    rule: &R,
-    orders: &[Order],
-    opening: Opening,
-    ranked: &mut [Ranked],
-    shares: &mut [Contracts],
-    buyers: &mut [Filled],
-    sellers: &mut [Filled],
-    fills: &mut [Contracts],
-    rows: &mut [Row],
-) -> usize
-    requires live { Live orders.now 65536 }
-    requires few { length orders.now ≤ 160 }
-    requires ranked_fit { length orders.now ≡ length ranked.old }
-    requires shares_fit { length orders.now ≡ length shares.old }
-    requires buyers_fit { length orders.now ≡ length buyers.old }
-    requires sellers_fit { length orders.now ≡ length sellers.old }
-    requires fills_fit { length orders.now ≡ length fills.old }
-    requires rows_fit { length orders.now ≤ length rows.old }
-    requires opens { opening.quantity.count ≡ matched_volume of_order orders.now opening.price.value }
-    ensures counted { result ≡ length (opening_rows (R.shared rule.now) orders.now opening.price.value) }
-    ensures written { rows.new ≡ opening_rows (R.shared rule.now) orders.now opening.price.value ++ drop result rows.old }
-    ensures filled { counts fills.new ≡ both_filled (R.shared rule.now) orders.now opening.price.value (counts fills.old) }
-{
-    let n = orders.len();
-    let first_buyer = fill_side(
-        rule,
-        orders,
-        Side::Buy,
-        opening,
-        ranked,
-        shares,
-        buyers,
-        fills,
-    );
-    let first_seller = fill_side(
-        rule,
-        orders,
-        Side::Sell,
-        opening,
-        ranked,
-        shares,
-        sellers,
-        fills,
-    );
-    pair(
-        &buyers[first_buyer..n],
-        &sellers[first_seller..n],
-        opening.price,
-        rows,
-    )
 }
 
 // The contracts that trade at a price.
@@ -171,29 +140,18 @@ pub fn open_at<R: SharingRule>(
 ) -> Result<usize, Refusal>
     ensures { Opens (R.shared rule.now) price.value table.old table.new rows.old rows.new result }
 {
-    let n = table.live().len();
+    let orders = table.live();
+    let n = orders.len();
     check_opening(n, price, rows.len())?;
     let opening = Opening {
+        orders,
         price,
         quantity: matched_volume(table, price),
     };
-    let mut ranked = rank_room();
-    let mut shares = contract_room();
-    let mut buyers = filled_room();
-    let mut sellers = filled_room();
-    let mut fills = contract_room();
-    let count = write_opening(
-        rule,
-        table.live(),
-        opening,
-        &mut ranked[0..n],
-        &mut shares[0..n],
-        &mut buyers[0..n],
-        &mut sellers[0..n],
-        &mut fills[0..n],
-        rows,
-    );
-    table.settle(Filter::Crossed(price), &fills[0..n]);
+    let mut room = contract_room();
+    let fills = &mut room[0..n];
+    let count = opening.write(rule, fills, rows);
+    table.settle(Filter::Crossed(price), fills);
     table.limit(price);
     Ok(count)
 }

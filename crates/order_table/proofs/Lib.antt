@@ -1,5 +1,3 @@
-pub mod Walks
 pub mod Records
-pub mod Settling
 pub mod Writing
-pub mod Departing
+pub mod Turns

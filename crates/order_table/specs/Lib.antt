@@ -1,5 +1,3 @@
-pub mod Blank
-pub mod Filters
 pub mod Records
 pub mod Orders
 pub mod Changes

@@ -1,13 +1,12 @@
 // The rows of orders that leave without a trade.
 ghost use Rattle.std.specs.Prelude.{◌≡◌, ◌≤◌, ◌++◌, map, length, drop, count_by, filter as kept_by};
-ghost use Rattle.order_table.specs.Filters.{passes};
+ghost use Rattle.book.specs.Filters.{passes};
 ghost use Rattle.order_table.specs.Departures.{departure_row, Wrote};
 
-use crate::select::{Filter, count};
+use book::select::{Filter, count};
 use market::order::{Account, Order};
 use market::refusal::Refusal;
-use market::row::{Row, RowKind};
-use market::units::Cents;
+use market::row::{NO_PRICE, Row, RowKind};
 
 // How an order leaves: it is withdrawn, or its exposure has ended.
 #[derive(Clone, Copy)]
@@ -15,8 +14,6 @@ pub enum Departure {
     Withdrawal,
     ExposureEnd,
 }
-
-const NO_PRICE: Cents = Cents { value: 0 };
 
 impl Departure {
     // The row of an order that leaves so, for all that is left of it.
@@ -26,27 +23,27 @@ impl Departure {
         let (kind, price) = match (self, order.account) {
             (Departure::Withdrawal, _) => (RowKind::Withdrawn, NO_PRICE),
             (Departure::ExposureEnd, Account::Customer) => (RowKind::Sent, order.kind.price()),
-            (Departure::ExposureEnd, Account::Linkage) => (RowKind::Returned, NO_PRICE),
-            (Departure::ExposureEnd, Account::MarketMaker) => (RowKind::Returned, NO_PRICE),
+            (Departure::ExposureEnd, Account::Linkage | Account::MarketMaker) => (
+                RowKind::Returned,
+                NO_PRICE,
+            ),
         };
         Row::departure(kind, order.number, price, order.left)
     }
 }
 
-// Writes the rows of the orders that pass, and answers how many.
-fn write_rows(orders: &[Order], filter: Filter, departure: Departure, rows: &mut [Row]) -> usize
+// Writes the rows of the orders that pass.
+fn write_rows(orders: &[Order], filter: Filter, departure: Departure, rows: &mut [Row])
     requires { count_by (passes filter) orders.now ≤ length rows.old }
-    ensures counted { result ≡ length (map (departure_row departure) (kept_by (passes filter) orders.now)) }
-    ensures written { rows.new ≡ map (departure_row departure) (kept_by (passes filter) orders.now) ++ drop result rows.old }
+    ensures { rows.new ≡ map (departure_row departure) (kept_by (passes filter) orders.now) ++ drop (count_by (passes filter) orders.now) rows.old }
 {
-    let mut count = 0;
-    for order in orders {
-        if filter.passes(order) {
-            rows[count] = departure.row(order);
-            count += 1;
-        }
+    for (i, order) in orders
+        .iter()
+        .filter(|order| filter.passes(order))
+        .enumerate()
+    {
+        rows[i] = departure.row(order);
     }
-    count
 }
 
 // Writes the rows of the orders that pass to the front of `rows`, and answers how many; refused where they do not fit.
@@ -58,8 +55,10 @@ pub fn write_departures(
 ) -> Result<usize, Refusal>
     ensures { Wrote (map (departure_row departure) (kept_by (passes filter) orders.now)) rows.old rows.new result }
 {
-    if rows.len() < count(orders, filter) {
+    let count = count(orders, filter);
+    if rows.len() < count {
         return Err(Refusal::OutOfBounds);
     }
-    Ok(write_rows(orders, filter, departure, rows))
+    write_rows(orders, filter, departure, rows);
+    Ok(count)
 }

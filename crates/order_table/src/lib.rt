@@ -2,8 +2,6 @@
 #![tactic(auto)]
 
 pub mod departures;
+mod limits;
 pub mod prices;
-mod room;
-pub mod select;
-mod settle;
 pub mod table;

@@ -4,7 +4,7 @@ ghost use Rattle.rules.specs.Prices.{cents, better_than, better_price, quoted, a
 ghost use Rattle.rules.specs.Prices as model;
 ghost use Rattle.rules.specs.Series.{book_best};
 
-use crate::select::Filter;
+use book::select::Filter;
 use market::order::{Order, Side};
 use market::quote::Quote;
 use market::units::Cents;
@@ -14,8 +14,8 @@ pub fn is_better(side: Side, price: Cents, other: Cents) -> bool
     ensures { result ≡ better_than side price.value other.value }
 {
     match side {
-        Side::Buy => price.value < other.value,
-        Side::Sell => other.value < price.value,
+        Side::Buy => price < other,
+        Side::Sell => other < price,
     }
 }
 
@@ -23,13 +23,10 @@ pub fn is_better(side: Side, price: Cents, other: Cents) -> bool
 fn better(side: Side, price: Cents, other: Cents) -> Cents
     ensures { Some result.value ≡ better_price side (Some price.value) (Some other.value) }
 {
-    match side {
-        Side::Buy => Cents {
-            value: price.value.min(other.value),
-        },
-        Side::Sell => Cents {
-            value: price.value.max(other.value),
-        },
+    if is_better(side, price, other) {
+        price
+    } else {
+        other
     }
 }
 
@@ -39,9 +36,7 @@ pub fn better_price(side: Side, price: Option<Cents>, other: Option<Cents>) -> O
 {
     match (price, other) {
         (Some(p), Some(q)) => Some(better(side, p, q)),
-        (Some(p), None) => Some(p),
-        (None, Some(q)) => Some(q),
-        (None, None) => None,
+        (p, q) => p.or(q),
     }
 }
 
@@ -60,8 +55,8 @@ pub fn away_best(side: Side, quotes: &[Quote]) -> Option<Cents>
     ensures { cents result ≡ away_best side quotes.now }
 {
     let mut best = None;
-    for i in (0..quotes.len()).rev() {
-        best = better_price(side, quoted(side, &quotes[i]), best);
+    for quote in quotes {
+        best = better_price(side, best, quoted(side, quote));
     }
     best
 }
@@ -71,9 +66,9 @@ pub fn book_best(side: Side, orders: &[Order]) -> Option<Cents>
     ensures { cents result ≡ book_best side orders.now }
 {
     let mut best = None;
-    for i in (0..orders.len()).rev() {
-        if Filter::BookContra(side).passes(&orders[i]) {
-            best = better_price(side, Some(orders[i].kind.price()), best);
+    for order in orders {
+        if Filter::BookContra(side).passes(order) {
+            best = better_price(side, best, Some(order.kind.price()));
         }
     }
     best
@@ -83,44 +78,20 @@ pub fn book_best(side: Side, orders: &[Order]) -> Option<Cents>
 pub fn bound(side: Side, limit: Cents, best: Option<Cents>) -> Cents
     ensures { result.value ≡ model.bound side limit.value (cents best) }
 {
-    match (side, best) {
-        (Side::Buy, Some(price)) => Cents {
-            value: limit.value.min(price.value),
-        },
-        (Side::Sell, Some(price)) => Cents {
-            value: limit.value.max(price.value),
-        },
-        (Side::Buy, None) => limit,
-        (Side::Sell, None) => limit,
-    }
+    best.map_or(limit, |price| better(side, limit, price))
 }
 
 // Whether a limit reaches the away best.
 pub fn reaches(side: Side, limit: Cents, best: Option<Cents>) -> bool
     ensures { result ≡ model.reaches side limit.value (cents best) }
 {
-    match (side, best) {
-        (Side::Buy, Some(price)) => price.value <= limit.value,
-        (Side::Sell, Some(price)) => limit.value <= price.value,
-        (Side::Buy, None) => false,
-        (Side::Sell, None) => false,
-    }
-}
-
-fn distance(price: Cents, other: Cents) -> u32
-    ensures { result ≡ model.distance price.value other.value }
-{
-    if price.value < other.value {
-        other.value - price.value
-    } else {
-        price.value - other.value
-    }
+    best.is_some_and(|price| !is_better(side, limit, price))
 }
 
 // Whether a price lies over 50 cents from the close, or five times that distance exceeds the close.
 pub fn is_out_of_range(close: Cents, price: Cents) -> bool
     ensures { result ≡ out_of_range close.value price.value }
 {
-    let distance = distance(price, close);
+    let distance = price.value.abs_diff(close.value);
     distance > 50 || 5 * distance > close.value
 }

@@ -1,25 +1,17 @@
 // The table that holds the order records.
-ghost use Rattle.std.specs.Prelude.{◌≡◌, ◌≤◌, true, length, take, count_by};
+ghost use Rattle.std.specs.Prelude.{◌≡◌, true};
 ghost use Rattle.std.specs.List.{list_all};
-ghost use Rattle.order_table.specs.Records.{sound_record, booked, auction_contra, customers, rises};
+ghost use Rattle.book.specs.Orders.{orders as records_of};
+ghost use Rattle.order_table.specs.Records.{priced};
 
-use market::order::Order;
+use book::table::Table as Records;
 
 mod changes;
 mod questions;
 
-// The first `count` records are live, in rising order of their numbers, all below `next`.
+// The records of the book, of which each live one is priced.
 #[derive(Clone, Copy)]
 pub struct Table {
-    records: [Order; 161],
-    count: usize,
-    next: u32,
-    ghost long: { length records ≡ 161 },
-    ghost few: { count ≤ 161 },
-    ghost sound: { list_all sound_record records ≡ true },
-    ghost rising: { rises 0 (take count records) next ≡ true },
-    ghost books: { count_by booked (take count records) ≤ 128 },
-    ghost rivals: { count_by auction_contra (take count records) ≤ 32 },
-    ghost customer: { count_by customers (take count records) ≤ 1 },
-    ghost numbers: { next ≤ 65536 },
+    records: Records,
+    ghost prices: { list_all priced (records_of records) ≡ true },
 }

@@ -1,13 +1,13 @@
 // The table at its limits, and takers at levels of many orders.
 use crate::tables::{BLANK_ROW, add, cents, check_rows, contracts, limit, new_order, trade};
+use book::allocation::Taking;
+use book::select::{Filter, count, find};
 use market::order::{Order, Side};
 use market::refusal::Refusal;
 use market::row::{Row, RowKind};
 use market::units::Contracts;
-use matching::allocation::Taking;
 use matching::take::{Taken, Taker, take};
 use order_table::departures::{Departure, write_departures};
-use order_table::select::{Filter, count, find};
 use order_table::table::Table;
 use sharing::pro_rata::ProRata;
 use sharing::rule::SharingRule;

@@ -1,10 +1,10 @@
 // Openings: the theoretical price, the rows and what is left.
 use crate::tables::{BLANK_ROW, MOO, add, cents, check_rows, close_at, limit, trade};
+use book::select::Filter;
 use discovery::opening_price::{demand, supply, top};
 use market::order::Side;
 use market::refusal::Refusal;
 use matching::opening::open_at;
-use order_table::select::Filter;
 use order_table::table::Table;
 use sharing::time::TimeWithGuarantee;
 use std::test::*;
@@ -50,6 +50,7 @@ fn least_surplus_before_the_close(rt: HostRuntime) -> Result<(), Fail> {
     Ok(())
 }
 
+// This and the next are two cases with other orders.
 #[test]
 fn lower_of_two_as_near(rt: HostRuntime) -> Result<(), Fail> {
     let mut table = Table::new();

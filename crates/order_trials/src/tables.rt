@@ -52,31 +52,21 @@ pub fn new_order(number: u16, side: Side, kind: OrderKind, size: u32) -> Order {
 
 // Adds an order of the book under the next number, and answers whether it is taken.
 pub fn add(table: &mut Table, side: Side, kind: OrderKind, size: u32) -> bool {
-    match u16::try_from(table.next()) {
-        Ok(number) => table.append(new_order(number, side, kind, size)),
-        Err(_) => false,
-    }
+    u16::try_from(table.next()).is_ok_and(|number| table.append(new_order(
+        number, side, kind, size,
+    )))
 }
 
 // A T row.
 pub fn trade(buyer: u16, seller: u16, price: u32, count: u32) -> Row {
-    Row {
-        kind: RowKind::Trade,
-        first: buyer,
-        second: seller,
-        price: cents(price),
-        contracts: contracts(count),
-    }
+    Row::trade(Side::Buy, buyer, seller, cents(price), contracts(count))
 }
 
 // Checks that the rows begin as expected, and that the next one is untouched.
 pub fn check_rows(rt: &impl Abort, rows: &[Row], expected: &[Row]) -> Result<(), Fail> {
-    assert!(rt; expected.len() < rows.len());
-    for (i, row) in expected.iter().enumerate() {
-        assert!(rt; rows[i] == *row, "a row differs");
-    }
+    assert!(rt; rows.starts_with(expected), "a row differs");
     assert!(rt;
-        rows[expected.len()] == BLANK_ROW,
+        rows.get(expected.len()) == Some(&BLANK_ROW),
         "a row is written past the last"
     );
     Ok(())

@@ -1,6 +1,8 @@
 // Prints the opening prices of random books. With a number of rounds it also times the search for them.
 #![tactic(auto)]
 
+ghost use Rattle.std.specs.Prelude.{◌<◌};
+
 use discovery::opening_price::top;
 use market::close::Close;
 use market::order::{Account, Order, OrderKind, Role, Side};
@@ -18,14 +20,16 @@ struct Random {
 }
 
 impl Random {
-    // A number below `bound`.
-    fn below(&mut self, bound: u32) -> u32 {
+    fn below(&mut self, bound: u32) -> u32
+        requires { 0 < bound }
+        ensures { result < bound }
+    {
         self.state = self
             .state
             .wrapping_mul(6_364_136_223_846_793_005)
             .wrapping_add(1_442_695_040_888_963_407);
         let high = (self.state >> 33) as u32;
-        if bound == 0 { 0 } else { high % bound }
+        high % bound
     }
 }
 
@@ -36,10 +40,10 @@ fn random_order(random: &mut Random, number: u16) -> Order {
         Side::Sell
     };
     let price = Cents {
-        value: (30 + random.below(30) % 30) * 10,
+        value: (30 + random.below(30)) * 10,
     };
     let size = Contracts {
-        count: 1 + random.below(100) % 100,
+        count: 1 + random.below(100),
     };
     Order {
         number,
@@ -70,47 +74,39 @@ fn random_table(orders: u32) -> Table {
     table
 }
 
-// The opening price at a close, 0 for none.
-fn price_at(table: &Table, close: u32) -> u32 {
-    match Close::new(Cents { value: close }) {
-        Ok(close) => match top(table, close) {
-            Some((price, _)) => price,
-            None => 0,
-        },
-        Err(_) => 0,
-    }
+// The opening price at a close, if there is one.
+fn price_at(table: &Table, close: u32) -> Option<u32> {
+    let close = Close::new(Cents { value: close }).ok()?;
+    let (price, _) = top(table, close)?;
+    Some(price)
 }
 
 // The opening prices at so many closes in turn, added up.
 fn sum_of_prices(table: &Table, rounds: u32) -> u64 {
-    let mut sum: u64 = 0;
-    for round in 0..rounds {
-        sum = sum.wrapping_add(price_at(table, 300 + round % 300) as u64);
-    }
-    sum
+    (0..rounds)
+        .filter_map(|round| price_at(table, 300 + round % 300))
+        .fold(0, |sum: u64, price| sum.wrapping_add(u64::from(price)))
 }
 
-fn print_table(rt: &HostRuntime, orders: u32, rounds: u32) -> io::Result<()> {
+fn print_table(rt: &HostRuntime, orders: u32, rounds: Option<u32>) -> io::Result<()> {
     let table = random_table(orders);
     let sum = sum_of_prices(&table, 300);
     println!(rt; "{orders} orders: {sum}")?;
-    if rounds == 0 {
+    let Some(rounds) = rounds else {
         return Ok(());
-    }
+    };
     let start = Instant::now(rt)?;
     let timed = sum_of_prices(&table, rounds);
     let nanos = start.elapsed(rt)?.as_nanos();
     println!(rt; "{orders} orders, timed: {timed} {nanos}")
 }
 
-// The number of rounds, 0 where none is given.
-fn rounds_given(rt: &HostRuntime) -> io::Result<u32> {
-    for word in env::args(rt)?.skip(1) {
-        if let Ok(rounds) = word.parse::<u32>() {
-            return Ok(rounds);
-        }
-    }
-    Ok(0)
+// The number of rounds, if one is given that is not 0.
+fn rounds_given(rt: &HostRuntime) -> io::Result<Option<u32>> {
+    let rounds = env::args(rt)?
+        .skip(1)
+        .find_map(|word| word.parse::<u32>().ok());
+    Ok(rounds.filter(|rounds| *rounds > 0))
 }
 
 fn main(rt: HostRuntime) -> anyhow::Result<()> {

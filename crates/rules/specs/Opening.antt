@@ -63,6 +63,22 @@ overlap b s = min b.2 s.2 - max b.1 s.1
 abbrev pub paired : ℕ → List (ℕ × ℕ × ℕ) → List (ℕ × ℕ × ℕ) → List Row
 paired p bs ss = flat_map (λ b. flat_map (λ s. cond (nat_lt 0 (overlap b s)) (trade Buy b.0 s.0 p (overlap b s) ∷ []) []) ss) bs
 
+-- what is left of Market-on-Opening becomes a limit at the opening price
+abbrev pub limited_at : ℕ → Order → Order
+limited_at p o = record {
+  number = o.number;
+  member = o.member;
+  side = o.side;
+  account = o.account;
+  kind = elim o.kind [ Limit l ↦ Limit l | MarketOnOpening ↦ limit_at p ];
+  size = o.size;
+  left = o.left;
+  traded = o.traded;
+  gone = o.gone;
+  exposed = o.exposed;
+  role = o.role;
+}
+
 module _ (rule : Sharing) (os : List Order) (p : ℕ) where
   -- what an order on side s trades when the series opens at p
   abbrev pub opening_fill : Side → Order → ℕ
@@ -77,21 +93,8 @@ module _ (rule : Sharing) (os : List Order) (p : ℕ) where
   abbrev pub opening_trade : Order → ℕ
   opening_trade o = cond (willing o.side p (of_order o)) (opening_fill o.side o) 0
 
-  -- what is left of Market-on-Opening becomes a limit at the opening price
   abbrev pub with_limit : Order → Order
-  with_limit o = record {
-    number = o.number;
-    member = o.member;
-    side = o.side;
-    account = o.account;
-    kind = elim o.kind [ Limit l ↦ Limit l | MarketOnOpening ↦ limit_at p ];
-    size = o.size;
-    left = o.left;
-    traded = o.traded;
-    gone = o.gone;
-    exposed = o.exposed;
-    role = o.role;
-  }
+  with_limit = limited_at p
 
   abbrev pub opened_orders : List Order
   opened_orders = live (map (λ o. with_limit (after_trade (opening_trade o) o)) os)

@@ -37,12 +37,12 @@ kind_bounded MarketOnOpening e = omega arith
 -- an order stands behind the others, and its number is used
 pub record Added (o : Order) (before after : Table) : Type 0 where
   pub records : orders after ≡ orders before ++ (o ∷ [])
-  pub numbers : after.next ≡ before.next + 1
+  pub numbers : after.records.next ≡ before.records.next + 1
 
 added_so : (o : Order) (before after : Table) (b : Bool) → Appended o before after b → b ≡ true → Added o before after
 added_so o before after b h e = record {
   records = h.records ∙ ap (λ (x : Bool). cond x (orders before ++ (o ∷ [])) (orders before)) e;
-  numbers = h.numbers ∙ ap (λ (x : Bool). cond {A = ℕ} x (before.next + 1) before.next) e;
+  numbers = h.numbers ∙ ap (λ (x : Bool). cond {A = ℕ} x (before.records.next + 1) before.records.next) e;
 }
 
 -- a new order can be added where there is room for its role
@@ -51,10 +51,10 @@ admits os n next m s a k size r e small price room =
     let o = new_order n m s a k size r in
     and_from _ _ (and_from (eqb n next) (sound_record o) (eq-eqb n next e) (sound_from o (record { sum = omega arith; size = small; price = price }))) room
 
-pub added : (before after : Table) (b : Bool) (x : Order) (n m : ℕ) (s : Side) (a : Account) (k : OrderKind) (size : ℕ) (r : Role) → Appended x before after b → x ≡ new_order n m s a k size r → n ≡ before.next →
-    size ≤ 9999 → price_of k ≤ 99999 → role_room r (orders before) ≡ true → Added (new_order before.next m s a k size r) before after
+pub added : (before after : Table) (b : Bool) (x : Order) (n m : ℕ) (s : Side) (a : Account) (k : OrderKind) (size : ℕ) (r : Role) → Appended x before after b → x ≡ new_order n m s a k size r → n ≡ before.records.next →
+    size ≤ 9999 → price_of k ≤ 99999 → role_room r (orders before) ≡ true → Added (new_order before.records.next m s a k size r) before after
 added before after b x n m s a k size r h is number small price room =
-    let o = new_order before.next m s a k size r in
+    let o = new_order before.records.next m s a k size r in
     let same : x ≡ o = is ∙ ap (λ (i : ℕ). new_order i m s a k size r) number in
     let h' : Appended o before after b = subst (λ (y : Order). Appended y before after b) same h in
-    added_so o before after b h' (h'.answer ∙ admits (orders before) before.next before.next m s a k size r refl small price room)
+    added_so o before after b h' (h'.answer ∙ admits (orders before) before.records.next before.records.next m s a k size r refl small price room)

@@ -1,5 +1,5 @@
 -- What a call owes, once its checks are known.
-use Rattle.std.proofs.Common.{◌≡◌, ℕ, ◌+◌, Bool, false, List, [], ◌∷◌, ◌++◌, length, drop, Some, None, Option, ap, ◌∙◌}
+use Rattle.std.proofs.Common.{◌≡◌, ℕ, ◌+◌, Bool, false, List, [], ◌∷◌, ◌++◌, length, drop, None, Option, ap, ◌∙◌}
 use Rattle.std.specs.List.{AllByRecursion}
 use Rattle.market.specs.Refusals.{first_hit}
 use Rattle.market.proofs.Tables.{clear}
@@ -7,7 +7,7 @@ use Rattle.market.specs.declared.auction.Auction.{Auction}
 use Rattle.market.specs.declared.order.Order.{Order}
 use Rattle.market.specs.declared.row.Row.{Row}
 use Rattle.rules.specs.Calls.{Call, checks, effect, at_time}
-use Rattle.rules.specs.Runs.{Answer, refused, accepted, Handed, event_by, handed_back, handed_over, state_by, opens_at, lent, written}
+use Rattle.rules.specs.Runs.{Answer, accepted, Handed, event_by, handed_over, state_by, opens_at, lent, written}
 use Rattle.rules.specs.Series.{State}
 use Rattle.sharing.specs.Sharing.{Sharing}
 use Rattle.series.specs.Answers.{Answers}
@@ -18,15 +18,6 @@ all_clear [] e = tt
 all_clear (c ∷ cs) e = let k = clear c.0 c.1 cs e in (k.0, all_clear cs k.1)
 
 module _ (rule : Sharing) (st : State) (c : Call) where
-  -- a call that a check hits changes nothing and answers by that check
-  pub refuses : (n : ℕ) → Some n ≡ first_hit (checks st c) → Answers rule st st (lent c) (refused n) (handed_back c) c
-  refuses n e = record {
-    state_is = ap (state_by rule st c) e;
-    answer_is = ap (λ (h : Option ℕ). (event_by rule st c h).answer) e;
-    memory_is = ap (λ (h : Option ℕ). (event_by rule st c h).memory) e;
-    handed_is = ap (λ (h : Option ℕ). (event_by rule st c h).handed) e;
-  }
-
   -- a call that no check hits has its effect
   pub accepts : (next : State) (memory : List Row) (told : Answer) (handed : Handed) → None ≡ first_hit (checks st c) → next ≡ (effect rule st c).state →
       told ≡ accepted (length (effect rule st c).rows) (effect rule st c).numbers (opens_at st c) → memory ≡ written (effect rule st c).rows (lent c) → handed ≡ handed_over st c → Answers rule st next memory told handed c

@@ -28,13 +28,15 @@ use Rattle.rules.proofs.Matching.{count_kept}
 use Rattle.rules.proofs.Tally.{all_of, sum_map, sum_under}
 use Rattle.sharing.specs.Sharing.{Sharing}
 use Rattle.order_table.specs.Changes.{admissible, role_room}
-use Rattle.order_table.specs.Filters.{passes}
+use Rattle.book.specs.Filters.{passes}
 use Rattle.order_table.specs.Orders.{orders}
-use Rattle.order_table.specs.Records.{booked, sound_record}
-use Rattle.order_table.specs.declared.select.Filter.TheVariants.{Reachable}
+use Rattle.book.specs.Records.{booked}
+use Rattle.order_table.specs.Records.{sound_record}
+use Rattle.book.specs.declared.select.Filter.TheVariants.{Reachable}
 use Rattle.order_table.specs.declared.table.Table.{Table}
 use Rattle.order_table.proofs.Records.{sound_from}
-use Rattle.matching.specs.Taking.{Took, left_of, trades_of}
+use Rattle.book.specs.Taking.{left_of, trades_of}
+use Rattle.matching.specs.Taking.{Took}
 use Rattle.matching.specs.declared.take.Taken.{Taken}
 use Rattle.matching.specs.declared.take.Taker.{Taker}
 use Rattle.series.specs.Answers.{Answers}
@@ -44,6 +46,7 @@ use Rattle.series.proofs.Answering.{accepts_rows, changed, changed_is}
 use Rattle.series.proofs.Holding.{held_parts, held_from, held_kept, held_pushed}
 use Rattle.series.proofs.Starters.{starter_parts, not_booked, stands_kept, stands_mapped}
 
+-- a price, or another where there is none
 -- rows written behind others
 pub rows_behind : (first second old between new : List Row) (k count : ℕ) → k ≡ length first → count ≡ k + length second → between ≡ first ++ drop k old → new ≡ take k between ++ (second ++ drop count between) → new ≡ (first ++ second) ++ drop count old
 rows_behind first second old between new k count long counted was is =
@@ -88,7 +91,7 @@ remainder_cases Q o rest a reached far end none stands exposed = go (eqb rest 0)
     go false false z = stands
 
 -- a remainder that stands can be added to the table
-module _ (o : Order) (before : Table) (order : Enterable o before) (os : List Order) (next : ℕ) (same : next ≡ before.next) (room : count_by booked os ≤ count_by booked (orders before)) where
+module _ (o : Order) (before : Table) (order : Enterable o before) (os : List Order) (next : ℕ) (same : next ≡ before.records.next) (room : count_by booked os ≤ count_by booked (orders before)) where
   fits_one : (rest : ℕ) (k : OrderKind) (e : Option Millis) → rest ≤ o.size.count → price_of k ≤ 99999 → admissible (resting o rest k e) os next ≡ true
   fits_one rest k e le price =
       let gone = order.gone in
@@ -119,20 +122,15 @@ module _ (rule : Sharing) (o : Order) (best : Option ℕ) (end : ℕ) (before mi
 
   module _ (took : Took rule (reachable rule (orders before) o best end) (taker_of o) before middle old between taken) where
     -- the remainder that the code finds
-    remainder_is : (left : ℕ) (reached : Bool) (far : ℕ) → left ≡ o.size.count - taken.traded.count → reached ≡ reaches o.side (price_of o.kind) best → far ≡ or_else best 0 →
-        remainder o left o.account reached far end ≡ entry_remainder rule (orders before) o best end
-    remainder_is left reached far e f g =
-        ap (λ (n : ℕ). remainder o n o.account reached far end) (e ∙ ap (λ (n : ℕ). o.size.count - n) took.traded)
-        ∙ ap (λ (b : Bool). remainder o (o.size.count - sum_by (entry_fill rule (orders before) o best end) (filter (reachable rule (orders before) o best end) (orders before))) o.account b far end) f
-        ∙ ap (λ (n : ℕ). remainder o (o.size.count - sum_by (entry_fill rule (orders before) o best end) (filter (reachable rule (orders before) o best end) (orders before))) o.account (reaches o.side (price_of o.kind) best) n end) g
+    remainder_is : (left : ℕ) → left ≡ o.size.count - taken.traded.count → remainder o left o.account (reaches o.side (price_of o.kind) best) (or_else best 0) end ≡ entry_remainder rule (orders before) o best end
+    remainder_is left e = ap (λ (n : ℕ). remainder o n o.account (reaches o.side (price_of o.kind) best) (or_else best 0) end) (e ∙ ap (λ (n : ℕ). o.size.count - n) took.traded)
 
-    pub admitted : (after : Table) (new : List Row) (stand : List Order) (back : List Row) (count left : ℕ) (reached : Bool) (far : ℕ) (limit : Cents) → limit.value ≡ price_of o.kind →
-        left ≡ o.size.count - taken.traded.count → reached ≡ reaches o.side limit.value best → far ≡ or_else best 0 →
-        stand ≡ (remainder o left o.account reached far end).0 → back ≡ (remainder o left o.account reached far end).1 →
-        orders after ≡ orders middle ++ stand → after.next ≡ middle.next + 1 → count ≡ taken.rows + length back → new ≡ take taken.rows between ++ (back ++ drop count between) →
+    pub admitted : (after : Table) (new : List Row) (stand : List Order) (back : List Row) (count left : ℕ) → left ≡ o.size.count - taken.traded.count →
+        stand ≡ (remainder o left o.account (reaches o.side (price_of o.kind) best) (or_else best 0) end).0 → back ≡ (remainder o left o.account (reaches o.side (price_of o.kind) best) (or_else best 0) end).1 →
+        orders after ≡ orders middle ++ stand → after.records.next ≡ middle.records.next + 1 → count ≡ taken.rows + length back → new ≡ take taken.rows between ++ (back ++ drop count between) →
         Admitted rule o best end before after old new count
-    admitted after new stand back count left reached far limit limit_is left_is reached-is far-is stand-is back_is records numbers counted written =
-        let whole = remainder_is left reached far left_is (reached-is ∙ ap (λ (p : ℕ). reaches o.side p best) limit_is) far-is in
+    admitted after new stand back count left left_is stand-is back_is records numbers counted written =
+        let whole = remainder_is left left_is in
         let e : stand ≡ (entry_remainder rule (orders before) o best end).0 = stand-is ∙ ap (λ (x : List Order × List Row). x.0) whole in
         let f : back ≡ (entry_remainder rule (orders before) o best end).1 = back_is ∙ ap (λ (x : List Order × List Row). x.1) whole in
         let rest = entry_remainder rule (orders before) o best end in
@@ -190,7 +188,7 @@ held_entered au rule os after o best end number m s a price n new h is =
 
 -- ---- the call
 
-pub enterable : (o : Order) (table : Table) (number m : ℕ) (s : Side) (a : Account) (p : Cents) (n : Contracts) → o ≡ new_order number m s a (limit_at p.value) n.count Book → number ≡ table.next → table.next ≤ 65535 →
+pub enterable : (o : Order) (table : Table) (number m : ℕ) (s : Side) (a : Account) (p : Cents) (n : Contracts) → o ≡ new_order number m s a (limit_at p.value) n.count Book → number ≡ table.records.next → table.records.next ≤ 65535 →
     p.value ≤ 99999 → n.count ≤ 9999 → count_by booked (orders table) < 128 → Enterable o table
 enterable o table number m s a p n is next numbers price size room = record {
   number = ap (λ (x : Order). x.number) is ∙ next;
@@ -203,17 +201,17 @@ enterable o table number m s a p n is next numbers price size room = record {
 }
 
 pub enters : (rule : Sharing) (st : State) (pass : ℕ) (t : Millis) (m : ℕ) (s : Side) (a : Account) (p : Cents) (n : Contracts) (rows new : List Row) (before after : Table) (o : Order) (best : Option ℕ) (number count : ℕ) →
-    None ≡ first_hit (checks st (enter pass t m s a p n rows)) → orders before ≡ st.orders → before.next ≡ st.next → number ≡ st.next → o ≡ new_order number m s a (limit_at p.value) n.count Book →
+    None ≡ first_hit (checks st (enter pass t m s a p n rows)) → orders before ≡ st.orders → before.records.next ≡ st.next → number ≡ st.next → o ≡ new_order number m s a (limit_at p.value) n.count Book →
     best ≡ away_best s st.away → Admitted rule o best (t.count + 3000) before after rows new count →
-    Answers rule st (changed st t.count after.next (orders after) st.auction) new (accepted count (number ∷ []) None) nothing (enter pass t m s a p n rows)
+    Answers rule st (changed st t.count after.records.next (orders after) st.auction) new (accepted count (number ∷ []) None) nothing (enter pass t m s a p n rows)
 enters rule st pass t m s a p n rows new before after o best number count e lists nexts numbers is bests k =
     let end : ℕ = t.count + 3000 in
     let order_is : o ≡ new_order st.next m s a (limit_at p.value) n.count Book = is ∙ ap (λ (x : ℕ). new_order x m s a (limit_at p.value) n.count Book) numbers in
     let rows_are : entry_rows rule (orders before) o best end ≡ (entered rule st t.count m s a p.value n.count).rows = λ i. entry_rows rule (lists i) (order_is i) (bests i) end in
     let left-are : entry_orders rule (orders before) o best end ≡ (entered rule st t.count m s a p.value n.count).state.orders = λ i. entry_orders rule (lists i) (order_is i) (bests i) end in
-    subst (λ (x : ℕ). Answers rule st (changed st t.count after.next (orders after) st.auction) new (accepted count (x ∷ []) None) nothing (enter pass t m s a p n rows)) (sym numbers)
-    (accepts_rows rule st (enter pass t m s a p n rows) (changed st t.count after.next (orders after) st.auction) new count nothing e
-    (changed_is st t.count 1 after.next (orders after) (entered rule st t.count m s a p.value n.count).state.orders st.auction (k.numbers ∙ ap (λ (x : ℕ). x + 1) nexts) (k.left ∙ left-are))
+    subst (λ (x : ℕ). Answers rule st (changed st t.count after.records.next (orders after) st.auction) new (accepted count (x ∷ []) None) nothing (enter pass t m s a p n rows)) (sym numbers)
+    (accepts_rows rule st (enter pass t m s a p n rows) (changed st t.count after.records.next (orders after) st.auction) new count nothing e
+    (changed_is st t.count 1 after.records.next (orders after) (entered rule st t.count m s a p.value n.count).state.orders st.auction (k.numbers ∙ ap (λ (x : ℕ). x + 1) nexts) (k.left ∙ left-are))
     (k.counted ∙ ap length rows_are)
     (k.written ∙ ap (λ (rs : List Row). rs ++ drop count rows) rows_are)
     refl)

@@ -1,10 +1,9 @@
 -- The finish of an auction, from what each step of the code leaves.
-use Rattle.std.proofs.Common.{◌≡◌, ℕ, ◌+◌, ◌-◌, ◌≤◌, Bool, true, false, cond, not, ◌&&◌, ◌||◌, eqb, ltb, leb, List, [], ◌∷◌, ◌++◌, map, length, take, drop, Some, None, count_by, filter, sym, refl, ap, ◌∙◌, subst, add-zero, arith}
+use Rattle.std.proofs.Common.{◌≡◌, ℕ, ◌+◌, ◌-◌, ◌≤◌, Bool, true, false, cond, not, ◌&&◌, ◌||◌, eqb, ltb, leb, List, [], ◌∷◌, ◌++◌, map, length, take, drop, Some, None, count_by, filter, sym, refl, ap, ◌∙◌, subst, arith}
 use borrow.Rule.Slice.PartMut.{put_mid}
 use Rattle.std.proofs.ByRecursion.{all_kept_by, All-weaker, kept_by_passes}
 use Rattle.std.proofs.lemmas.List.{append-nil, drop_all, drop-drop, length-append, length-drop, take_rest}
 use Rattle.std.proofs.lemmas.Bool.{and_parts, both_ways, cond_both, leb-true, not_from_true}
-use Rattle.market.specs.Refusals.{first_hit}
 use Rattle.market.specs.Spans.{size_in_span}
 use Rattle.market.specs.Words.{same_side, other, in_book, auctioned, standing}
 use Rattle.market.specs.declared.auction.Auction.{Auction}
@@ -14,26 +13,22 @@ use Rattle.market.specs.declared.order.Role.TheVariants.{Book, Auctioned, Starte
 use Rattle.market.specs.declared.order.Side.{Side}
 use Rattle.market.specs.declared.order.Side.TheVariants.{Buy, Sell}
 use Rattle.market.specs.declared.row.Row.{Row}
-use Rattle.market.specs.declared.units.Millis.{Millis}
 use Rattle.rules.specs.Allocation.{after_trade, live}
-use Rattle.rules.specs.Calls.{Effect, Ticket, against_customer, checks, effect, finish, finished, without, withdrawn_row}
-use Rattle.rules.specs.Runs.{accepted, ticket}
-use Rattle.rules.specs.Series.{State}
+use Rattle.rules.specs.Calls.{against_customer, without, withdrawn_row}
 use Rattle.rules.proofs.Matching.{count_kept, kept_kept, kept_same}
 use Rattle.rules.proofs.Tally.{all_of, all_both, sum_map, sum_two, sum_under}
 use Rattle.sharing.specs.Sharing.{Sharing}
-use Rattle.order_table.specs.Filters.{passes}
+use Rattle.book.specs.Filters.{passes}
 use Rattle.order_table.specs.Orders.{orders}
-use Rattle.order_table.specs.Records.{booked, auction_contra, Live}
-use Rattle.order_table.specs.declared.select.Filter.TheVariants.{Contra, Outside, InBook}
+use Rattle.book.specs.Records.{booked, auction_contra, Live}
+use Rattle.book.specs.declared.select.Filter.TheVariants.{Contra, Outside, InBook}
 use Rattle.order_table.specs.declared.table.Table.{Table}
-use Rattle.matching.specs.Taking.{Took, trades_of}
+use Rattle.book.specs.Taking.{trades_of}
+use Rattle.matching.specs.Taking.{Took}
 use Rattle.matching.specs.declared.take.Taken.{Taken}
 use Rattle.matching.specs.declared.take.Taker.{Taker}
-use Rattle.series.specs.Answers.{Answers}
 use Rattle.series.specs.Finishing.{customer_taker, finish_fill, finish_left, finish_rows, finish_orders, Finished}
 use Rattle.series.specs.Held.{auctioned_by, held_well}
-use Rattle.series.proofs.Answering.{accepts, changed, changed_is}
 use Rattle.series.proofs.Entering.{rows_behind}
 use Rattle.series.proofs.Holding.{held_parts, held_from}
 
@@ -98,9 +93,9 @@ module _ (rule : Sharing) (a : Auction) (before middle besides : Table) (old bet
   pub outside_few : count_by (passes Outside) (orders besides) ≤ count_by (passes Outside) (without a.customer (orders before))
   outside_few = omega (arith, ap (count_by (passes Outside)) besides_are, outside_left (against_customer a) (finish_fill rule (orders before) a) a.customer (orders before))
 
-  pub finished_so : (after : Table) (left : List Order) (last new : List Row) (w : ℕ) → besides.next ≡ middle.next → left ≡ orders besides → taken.rows ≤ length between → w ≡ length (map withdrawn_row (filter (passes Outside) left)) →
+  pub finished_so : (after : Table) (left : List Order) (last new : List Row) (w : ℕ) → besides.records.next ≡ middle.records.next → left ≡ orders besides → taken.rows ≤ length between → w ≡ length (map withdrawn_row (filter (passes Outside) left)) →
       last ≡ map withdrawn_row (filter (passes Outside) left) ++ drop w (take (length between - taken.rows) (drop taken.rows between)) → new ≡ put_mid taken.rows (length between - taken.rows) between last →
-      orders after ≡ filter (passes InBook) (orders besides) → after.next ≡ besides.next → Finished rule a before after old new (taken.rows + w)
+      orders after ≡ filter (passes InBook) (orders besides) → after.records.next ≡ besides.records.next → Finished rule a before after old new (taken.rows + w)
   finished_so after left last new w nexts is inside counted written put booked next =
       let first = trades_of rule (orders before) (passes (Contra a.side)) (customer_taker a) in
       let second = map withdrawn_row (filter (passes Outside) left) in
@@ -174,22 +169,3 @@ module _ (a : Auction) (os : List Order) (next : ℕ) (ok : Live os next) (held 
 pub held_finished : (rule : Sharing) (os after : List Order) (a : Auction) → after ≡ finish_orders rule os a → held_well None after ≡ true
 held_finished rule os after a e =
     subst (λ (xs : List Order). held_well None xs ≡ true) (sym e) (held_from None (finish_orders rule os a) refl (kept_by_passes (λ o. in_book o.role) (finish_left rule os a)) refl)
-
--- ---- the call
-
-finish_is : (rule : Sharing) (st : State) (k : Ticket) (t : Millis) (rows : List Row) (a : Auction) → st.auction ≡ Some a → effect rule st (finish k t rows) ≡ finished rule st t.count a
-finish_is rule st k t rows a e = rw (e, effect)
-
-pub finishes : (rule : Sharing) (st : State) (k : Ticket) (t : Millis) (rows new : List Row) (before after : Table) (a : Auction) (count : ℕ) → None ≡ first_hit (checks st (finish k t rows)) → st.auction ≡ Some a →
-    orders before ≡ st.orders → before.next ≡ st.next → Finished rule a before after rows new count →
-    Answers rule st (changed st t.count after.next (orders after) None) new (accepted count [] None) (ticket (record { series = k.series; customer = k.customer; discharged = true })) (finish k t rows)
-finishes rule st k t rows new before after a count e runs lists nexts f =
-    let is = sym (finish_is rule st k t rows a runs) in
-    let rows_are : finish_rows rule (orders before) a ≡ (finished rule st t.count a).rows = ap (λ (os : List Order). finish_rows rule os a) lists in
-    let left-are : finish_orders rule (orders before) a ≡ (finished rule st t.count a).state.orders = ap (λ (os : List Order). finish_orders rule os a) lists in
-    let counted : count ≡ length (finished rule st t.count a).rows = f.counted ∙ ap length rows_are in
-    accepts rule st (finish k t rows) (changed st t.count after.next (orders after) None) new (accepted count [] None) (ticket (record { series = k.series; customer = k.customer; discharged = true })) e
-    (changed_is st t.count 0 after.next (orders after) (finished rule st t.count a).state.orders None (f.numbers ∙ nexts ∙ sym (add-zero st.next)) (f.left ∙ left-are) ∙ ap (λ (x : Effect). x.state) is)
-    (ap (λ (n : ℕ). accepted n [] None) counted ∙ ap (λ (x : Effect). accepted (length x.rows) x.numbers None) is)
-    (f.written ∙ (λ i. rows_are i ++ drop (counted i) rows) ∙ ap (λ (x : Effect). x.rows ++ drop (length x.rows) rows) is)
-    refl

@@ -8,7 +8,7 @@ use Rattle.market.specs.declared.auction.Auction.{Auction}
 use Rattle.market.specs.declared.order.Order.{Order}
 use Rattle.market.specs.declared.order.Role.{Role}
 use Rattle.market.specs.declared.order.Role.TheVariants.{Book}
-use Rattle.order_table.proofs.Records.{pass_all, all_passes}
+use Rattle.book.proofs.Records.{pass_all, all_passes}
 use Rattle.series.specs.Held.{auction_in_span, belongs, starter_stands, held_well}
 use Rattle.series.proofs.Starters.{stands_pushed}
 

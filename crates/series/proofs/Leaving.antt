@@ -7,7 +7,7 @@ use Rattle.market.specs.declared.order.Order.{Order}
 use Rattle.rules.specs.Calls.{without}
 use Rattle.rules.specs.Series.{found, book_order, due}
 use Rattle.rules.proofs.Tally.{all_of}
-use Rattle.order_table.specs.Records.{rises}
+use Rattle.book.specs.Records.{rises}
 use Rattle.series.specs.Held.{starters_order, held_well}
 use Rattle.series.proofs.Holding.{held_parts, held_kept}
 use Rattle.series.proofs.Starters.{stands_kept, starter_parts, lasting, others, not_booked}

@@ -7,6 +7,5 @@ pub mod Leaving
 pub mod Starting
 pub mod Replacing
 pub mod Opening
-pub mod Tables
 pub mod Entering
 pub mod Finishing

@@ -13,7 +13,7 @@ use Rattle.rules.specs.Calls.{without, without_old}
 use Rattle.rules.specs.Series.{State, found, auction_full, competing_order, replaced, starter_order}
 use Rattle.rules.proofs.Matching.{count_kept}
 use Rattle.rules.proofs.Tally.{sum_kept, sum_two, sum_under, all_of}
-use Rattle.order_table.specs.Records.{auction_contra, rises}
+use Rattle.book.specs.Records.{auction_contra, rises}
 use Rattle.series.specs.Held.{belongs, starting, starters_order, starter_stands, held_well}
 use Rattle.series.proofs.Holding.{held_parts, held_from}
 use Rattle.series.proofs.Starters.{stands_kept, stands_pushed, stands_last, starter_parts, others, found_passes, not_competing}

@@ -103,9 +103,6 @@ pub record Replaying (rule : Sharing) (number close : ℕ) (done : List DayCall)
   pub events_are : map event_of journal ≡ (run rule number close (map call_of done)).events
 
 module _ (rule : Sharing) (number close : ℕ) where
-  pub replaying_none : (st : State) (journal : List JournalEntry) → st ≡ fresh number close → journal ≡ [] → Replaying rule number close [] st journal
-  replaying_none st journal e f = record { state_is = e; events_are = ap (map event_of) f }
-
   pub replaying_more : (done : List DayCall) (st : State) (journal : List JournalEntry) → Replaying rule number close done st journal →
       (c : DayCall) (e : JournalEntry) (next : State) → next ≡ after rule st (call_of c) → event_of e ≡ event rule st (call_of c) →
       Replaying rule number close (done ++ (c ∷ [])) next (journal ++ (e ∷ []))

@@ -13,7 +13,7 @@ use Rattle.market.specs.declared.order.Role.TheVariants.{Book, Auctioned, Starte
 use Rattle.market.specs.declared.units.Millis.{Millis}
 use Rattle.rules.specs.Series.{found, due}
 use Rattle.rules.proofs.Tally.{sum_kept, sum_map, sum_under}
-use Rattle.order_table.specs.Records.{rises}
+use Rattle.book.specs.Records.{rises}
 use Rattle.series.specs.Held.{starting, starters_order, starter_stands}
 
 under : (a b : Bool) → (a ≡ true → b ≡ true) → cond {A = ℕ} a 1 0 ≤ cond {A = ℕ} b (cond a 1 0) 0

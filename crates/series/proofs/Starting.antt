@@ -12,8 +12,8 @@ use Rattle.market.specs.declared.order.Role.{Role}
 use Rattle.market.specs.declared.order.Role.TheVariants.{Book, Auctioned, Starter, Competing}
 use Rattle.market.specs.declared.order.Side.{Side}
 use Rattle.market.specs.declared.order.Side.TheVariants.{Buy, Sell}
-use Rattle.order_table.specs.Records.{booked, auction_contra, customers}
-use Rattle.order_table.proofs.Records.{count_three}
+use Rattle.book.specs.Records.{booked, auction_contra, customers}
+use Rattle.book.proofs.Records.{count_three}
 use Rattle.series.specs.Held.{auction_in_span, belongs, starters_order, starter_stands, held_well}
 use Rattle.series.proofs.Holding.{held_parts, held_from}
 use Rattle.series.proofs.Starters.{stands_last}

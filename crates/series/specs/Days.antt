@@ -1,5 +1,7 @@
 -- A day given as data, in the words of the rules.
-use Rattle.std.specs.Prelude.{◌≡◌, ℕ, List, [], ◌∷◌, map, take, replicate}
+use Rattle.std.specs.Prelude.{◌≡◌, ℕ, List, [], ◌∷◌, map, take, replicate, Some, None, Ok, Err, Option, Result}
+use Rattle.market.specs.Refusals.{refusal_number}
+use Rattle.market.specs.declared.refusal.Refusal.{Refusal}
 use Rattle.market.specs.declared.row.Row.{Row}
 use Rattle.market.specs.declared.row.RowKind.TheVariants.{Withdrawn}
 use Rattle.rules.specs.Calls as calls
@@ -8,15 +10,14 @@ use Rattle.rules.specs.Runs as runs
 use Rattle.rules.specs.Law.{BestTerms}
 use Rattle.rules.specs.Runs.{Answer, Event, Handed, refused, accepted, run}
 use Rattle.sharing.specs.Sharing.{Sharing}
-use Rattle.series.specs.declared.day.CallAnswer.{CallAnswer}
-use Rattle.series.specs.declared.day.CallAnswer.TheVariants.{Refused, Accepted}
+use Rattle.series.specs.declared.day.Accepted.{Accepted}
 use Rattle.series.specs.declared.day.DayCall.{DayCall}
 use Rattle.series.specs.declared.day.DayCall.TheVariants.{Place, Withdraw, Away, Open, Enter, Clock, Start, Improve, Better, Finish}
 use Rattle.series.specs.declared.day.HandedBack.{HandedBack}
-use Rattle.series.specs.declared.day.HandedBack.TheVariants.{Nothing, PreOpeningPass, TradingPass, Ticket}
+use Rattle.series.specs.declared.day.HandedBack.TheVariants.{PreOpeningPass, TradingPass, Ticket}
 use Rattle.series.specs.declared.day.JournalEntry.{JournalEntry}
 use Rattle.series.specs.declared.day.NewNumbers.{NewNumbers}
-use Rattle.series.specs.declared.day.NewNumbers.TheVariants.{None as NoNumbers, One, Two}
+use Rattle.series.specs.declared.day.NewNumbers.TheVariants.{One, Two}
 use Rattle.series.specs.declared.day.ShownTicket.{ShownTicket}
 
 -- memory as it is lent
@@ -55,20 +56,20 @@ lent_to (Improve c) = c.lent
 lent_to (Better c) = c.lent
 lent_to (Finish c) = c.lent
 
-abbrev pub numbers_of : NewNumbers → List ℕ
-numbers_of NoNumbers = []
-numbers_of (One n) = n ∷ []
-numbers_of (Two n m) = n ∷ m ∷ []
+abbrev pub numbers_of : Option NewNumbers → List ℕ
+numbers_of (Some (One n)) = n ∷ []
+numbers_of (Some (Two n m)) = n ∷ m ∷ []
+numbers_of None = []
 
-abbrev pub answer_of : CallAnswer → Answer
-answer_of (Refused n) = refused n
-answer_of (Accepted rows numbers opening) = accepted rows (numbers_of numbers) opening
+abbrev pub answer_of : Result Accepted Refusal → Answer
+answer_of (Ok a) = accepted a.rows (numbers_of a.numbers) a.opening
+answer_of (Err e) = refused (refusal_number e)
 
-abbrev pub handed_of : HandedBack → Handed
-handed_of Nothing = runs.nothing
-handed_of (PreOpeningPass n) = runs.pre_opening_pass n
-handed_of (TradingPass n) = runs.trading_pass n
-handed_of (Ticket t) = runs.ticket (shown_as t)
+abbrev pub handed_of : Option HandedBack → Handed
+handed_of (Some (PreOpeningPass n)) = runs.pre_opening_pass n
+handed_of (Some (TradingPass n)) = runs.trading_pass n
+handed_of (Some (Ticket t)) = runs.ticket (shown_as t)
+handed_of None = runs.nothing
 
 -- an entry of the journal: the call, its answer, its memory when it returned, and what it handed back
 abbrev pub event_of : JournalEntry → Event

@@ -8,8 +8,8 @@ use Rattle.rules.specs.Allocation.{fill, taker_rows, after_trade, live}
 use Rattle.rules.specs.Calls.{remainder}
 use Rattle.rules.specs.Prices.{bound, reaches, within}
 use Rattle.sharing.specs.Sharing.{Sharing}
-use Rattle.order_table.specs.Orders.{orders}
-use Rattle.order_table.specs.Records.{booked}
+use Rattle.order_table.specs.Orders.{orders, next_number}
+use Rattle.book.specs.Records.{booked}
 use Rattle.order_table.specs.declared.table.Table.{Table}
 
 module _ (rule : Sharing) (os : List Order) (o : Order) (best : Option ℕ) (end : ℕ) where
@@ -31,8 +31,8 @@ module _ (rule : Sharing) (os : List Order) (o : Order) (best : Option ℕ) (end
 
 -- an order for the book that has not traded, under the next number, for which there is room
 pub record Enterable (o : Order) (t : Table) : Type 0 where
-  pub number : o.number ≡ t.next
-  pub numbers : t.next ≤ 65535
+  pub number : o.number ≡ next_number t
+  pub numbers : next_number t ≤ 65535
   pub size : o.size.count ≤ 9999
   pub gone : o.gone.count ≡ 0
   pub role : o.role ≡ Book
@@ -44,4 +44,4 @@ pub record Admitted (rule : Sharing) (o : Order) (best : Option ℕ) (end : ℕ)
   pub counted : count ≡ length (entry_rows rule (orders before) o best end)
   pub written : new ≡ entry_rows rule (orders before) o best end ++ drop count old
   pub left : orders after ≡ entry_orders rule (orders before) o best end
-  pub numbers : after.next ≡ before.next + 1
+  pub numbers : next_number after ≡ next_number before + 1

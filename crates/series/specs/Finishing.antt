@@ -7,7 +7,7 @@ use Rattle.market.specs.declared.row.Row.{Row}
 use Rattle.rules.specs.Allocation.{fill, taker_rows, after_trade, live}
 use Rattle.rules.specs.Calls.{against_customer, without, withdrawn_row}
 use Rattle.sharing.specs.Sharing.{Sharing}
-use Rattle.order_table.specs.Orders.{orders}
+use Rattle.order_table.specs.Orders.{orders, next_number}
 use Rattle.order_table.specs.declared.table.Table.{Table}
 use Rattle.matching.specs.declared.take.Taker.{Taker}
 
@@ -38,4 +38,4 @@ pub record Finished (rule : Sharing) (a : Auction) (before after : Table) (old n
   pub counted : count ≡ length (finish_rows rule (orders before) a)
   pub written : new ≡ finish_rows rule (orders before) a ++ drop count old
   pub left : orders after ≡ finish_orders rule (orders before) a
-  pub numbers : after.next ≡ before.next
+  pub numbers : next_number after ≡ next_number before

@@ -36,7 +36,3 @@ starter_stands None os = true
 
 abbrev pub held_well : Option Auction → List Order → Bool
 held_well au os = auction_in_span au && list_all (belongs au) os && starter_stands au os
-
--- before the opening no auction runs
-abbrev pub opened_or_quiet : Bool → Option Auction → Bool
-opened_or_quiet trading au = trading || not (is_some au)

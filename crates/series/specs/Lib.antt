@@ -2,6 +2,7 @@ pub mod Quotes
 pub mod Held
 pub mod Tickets
 pub mod Days
+pub mod Phases
 pub mod State
 pub mod Answers
 pub mod Contra

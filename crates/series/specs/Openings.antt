@@ -4,7 +4,7 @@ use Rattle.market.specs.declared.order.Order.{Order}
 use Rattle.market.specs.declared.row.Row.{Row}
 use Rattle.rules.specs.Opening.{opening_rows, opened_orders}
 use Rattle.sharing.specs.Sharing.{Sharing}
-use Rattle.order_table.specs.Orders.{orders}
+use Rattle.order_table.specs.Orders.{orders, next_number}
 use Rattle.order_table.specs.declared.table.Table.{Table}
 
 -- an opening price, if there is one, is no higher than a price can be
@@ -25,4 +25,4 @@ pub record Matched (rule : Sharing) (opening : Option (ℕ × ℕ)) (before afte
   pub counted : count ≡ length (rows_opened rule (orders before) opening)
   pub written : new ≡ rows_opened rule (orders before) opening ++ drop count old
   pub left : orders after ≡ orders_opened rule (orders before) opening
-  pub numbers : after.next ≡ before.next
+  pub numbers : next_number after ≡ next_number before

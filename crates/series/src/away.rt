@@ -10,12 +10,13 @@ use market::quote::Quote;
 use market::units::Cents;
 use order_table::prices::away_best;
 
+// A quote of neither price; it stands for none of its own.
 const NO_QUOTE: Quote = Quote {
     bid: None,
     offer: None,
 };
 
-// The best bid and offer of each of the eight markets, either of which may be missing.
+// The best bid and offer of each of the eight markets, either of which may be missing. An array: there are always eight.
 #[derive(Clone, Copy)]
 pub struct AwayQuotes {
     quotes: [Quote; 8],

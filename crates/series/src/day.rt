@@ -1,5 +1,6 @@
 // A day as data: calls with all that they are given, and the journal of their events.
 use market::order::{Account, OrderKind, Side};
+use market::refusal::Refusal;
 use market::row::{Row, RowKind};
 use market::units::{Cents, Contracts, Millis};
 
@@ -53,7 +54,7 @@ pub struct AwayCall {
     pub offer: Option<Cents>,
 }
 
-// The opening.
+// The opening. That a far price is waived is yes or no, as the member says it.
 #[derive(Clone, Copy)]
 pub struct OpenCall {
     pub pass: u16,
@@ -139,30 +140,25 @@ pub enum DayCall {
     Finish(FinishCall),
 }
 
-// The order numbers that a call uses.
+// The order numbers that a call uses: an order's, or those of an auction's customer and starter.
 #[derive(Clone, Copy, PartialEq, Eq, Debug)]
 pub enum NewNumbers {
-    None,
     One(u16),
     Two(u16, u16),
 }
 
-// What a call answers: a refusal by its number; or how many rows it wrote, its new order numbers and, from open, the
-// opening price with its quantity.
+// What an accepted call answers: how many rows it wrote, its new order numbers and, from open, the opening price with
+// its quantity.
 #[derive(Clone, Copy, PartialEq, Eq, Debug)]
-pub enum CallAnswer {
-    Refused(u8),
-    Accepted {
-        rows: usize,
-        numbers: NewNumbers,
-        opening: Option<(u32, u32)>,
-    },
+pub struct Accepted {
+    pub rows: usize,
+    pub numbers: Option<NewNumbers>,
+    pub opening: Option<(u32, u32)>,
 }
 
-// A pass or ticket that a call hands back.
+// A pass, by its series, or a ticket that a call hands back.
 #[derive(Clone, Copy, PartialEq, Eq, Debug)]
 pub enum HandedBack {
-    Nothing,
     PreOpeningPass(u16),
     TradingPass(u16),
     Ticket(ShownTicket),
@@ -171,11 +167,12 @@ pub enum HandedBack {
 // What becomes of a call besides its rows.
 #[derive(Clone, Copy, PartialEq, Eq, Debug)]
 pub struct Outcome {
-    pub answer: CallAnswer,
-    pub handed: HandedBack,
+    pub answer: Result<Accepted, Refusal>,
+    pub handed: Option<HandedBack>,
 }
 
-// A call, what became of it, and its memory when it returned: as many rows as it was lent.
+// A call, what became of it, and its memory when it returned: as many rows as it was lent. The memory is an array, as that
+// of a caller without a heap.
 #[derive(Clone, Copy)]
 pub struct JournalEntry {
     pub call: DayCall,

@@ -1,4 +1,5 @@
-// Passes, which show that a call is made to the right series in the right phase.
+// Passes, which show that a call is made to the right series in the right phase. They are two types and not one with a
+// parameter for the phase, which would be no plainer: each call asks for one of the two by its name.
 
 // Shown before the opening, and given up to open.
 #[derive(Drop)]

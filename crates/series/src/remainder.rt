@@ -2,10 +2,9 @@
 use market::order::Order;
 use market::row::Row;
 
-// What becomes of it: nothing is left, it stands as an order, or it is returned by a row.
+// What becomes of what is left: it stands as an order, or it is returned by a row.
 #[derive(Clone, Copy)]
 pub enum Remainder {
-    Nothing,
     Stands(Order),
     Returned(Row),
 }

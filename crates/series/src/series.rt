@@ -1,10 +1,11 @@
 // One series.
 ghost use Rattle.std.specs.Prelude.{◌≡◌, ◌≤◌, true};
 ghost use Rattle.order_table.specs.Orders.{orders};
-ghost use Rattle.series.specs.Held.{held_well, opened_or_quiet};
+ghost use Rattle.series.specs.Phases.{running};
+ghost use Rattle.series.specs.Held.{held_well};
 
 use crate::away::AwayQuotes;
-use market::auction::Auction;
+use crate::phase::Phase;
 use market::close::Close;
 use market::units::Millis;
 use order_table::table::Table;
@@ -31,13 +32,11 @@ pub struct Series<R> {
     rule: R,
     number: u16,
     close: Close,
-    trading: bool,
+    phase: Phase,
     // the last accepted time
     time: Millis,
     away: AwayQuotes,
     table: Table,
-    auction: Option<Auction>,
     ghost day: { time.count ≤ 86400000 },
-    ghost held: { held_well auction (orders table) ≡ true },
-    ghost quiet: { opened_or_quiet trading auction ≡ true },
+    ghost held: { held_well (running phase) (orders table) ≡ true },
 }

@@ -5,7 +5,8 @@ ghost use Rattle.std.specs.Prelude.{◌≡◌, true};
 
 use crate::day::ShownTicket;
 
-// The duty to finish one auction. It may be dropped only once it is discharged.
+// The duty to finish one auction. It may be dropped only once it is discharged, which is said of a field, as a rule of this
+// project: one ticket is lent to calls before and after.
 pub struct Ticket {
     pub(crate) series: u16,
     pub(crate) customer: u16,
@@ -25,7 +26,8 @@ impl Drop for Ticket {
 }
 
 impl Ticket {
-    // A ticket made from data, and one taken apart into data. Only a replay of a day does this.
+    // A ticket made from data, and one taken apart into data. Only a replay of a day does this: a `From` would be public,
+    // and let anybody forge a ticket or be rid of its duty.
     pub(crate) fn from_note(note: ShownTicket) -> Ticket
         ensures { shown result ≡ shown_as note }
     {

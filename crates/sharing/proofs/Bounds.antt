@@ -1,5 +1,5 @@
 -- The bounds of a rule's input, by the test and by places.
-use Rattle.std.proofs.Common.{◌≡◌, ℕ, zero, suc, ◌≤◌, true, not, ◌&&◌, eqb, leb, List, [], ◌∷◌, length, get_or, None, Ok, Err, Option, Result, refl, ◌∙◌, arith}
+use Rattle.std.proofs.Common.{◌≡◌, ℕ, zero, suc, ◌^◌, ◌<◌, ◌≤◌, true, not, ◌&&◌, eqb, leb, List, [], ◌∷◌, length, get_or, sum, None, Ok, Err, Option, Result, refl, arith}
 use Rattle.std.specs.List.{list_all}
 use Rattle.std.proofs.lemmas.Bool.{leb-true, le-leb, eqb-true, eq-eqb, not-false, not_from_true, both_ways, and_parts, and_from}
 use Rattle.market.specs.declared.refusal.Refusal.{Refusal}
@@ -7,7 +7,7 @@ use Rattle.market.specs.Refusals.{first_hit, refusal_number}
 use Rattle.market.proofs.Tables.{clear, hit}
 use Rattle.market.specs.declared.units.Contracts.{Contracts}
 use Rattle.sharing.specs.Asked.{Answered, bounds_checks, counts}
-use Rattle.sharing.proofs.Counts.{length_counts}
+use Rattle.sharing.proofs.Counts.{sum_fits}
 use Rattle.sharing.specs.Sharing.{Sharing, in_bounds}
 
 -- no claim is over the largest, and past the end of the list there is 0
@@ -58,11 +58,13 @@ accepted claims amount guarantee places h =
     let parts = and_parts (in_bounds claims amount guarantee) (eqb places (length claims)) (not-false _ (clear 7 _ [] h).0) in
     (bounded claims amount guarantee parts.0, eqb-true places (length claims) parts.1)
 
--- there is one place for each share
-pub places_fit :
-    (claims : List Contracts) (amount guarantee places : ℕ) → None ≡ first_hit (bounds_checks (counts claims) amount guarantee places) →
-    places ≡ length claims
-places_fit claims amount guarantee places h = (accepted (counts claims) amount guarantee places h).1 ∙ length_counts claims
+-- the claims of an accepted input have a sum that fits
+pub accepted_sum :
+    (claims : List ℕ) (amount guarantee places : ℕ) → None ≡ first_hit (bounds_checks claims amount guarantee places) →
+    sum claims < 2 ^ 32
+accepted_sum claims amount guarantee places h =
+    let b = (accepted claims amount guarantee places h).0 in
+    sum_fits claims (omega (arith, b.few)) b.small
 
 -- a rule that is asked within the bounds, with one place for each share, answers by its shares
 pub asked :

@@ -4,5 +4,5 @@
 pub mod examples;
 pub mod pro_rata;
 pub mod rule;
-mod sums;
+pub mod sums;
 pub mod time;

@@ -20,6 +20,7 @@ pub struct Ordered {
     pub size: u32,
 }
 
+// Two names for one record, so that a call reads as what a member does.
 pub fn buys(member: u16, account: Account, size: u32) -> Ordered {
     Ordered {
         member,

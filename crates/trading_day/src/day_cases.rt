@@ -3,7 +3,7 @@ use crate::calls::{
     CLOSE, at, away, buys, cents, clock, contracts, enter, finish, improve, limit, open, place,
     sells, start, ticket,
 };
-use crate::journals::{check_day, check_last, refusal, row, trade};
+use crate::journals::{check_day, check_last, count_full, departure, row_count, trade};
 use market::close::Close;
 use market::order::{Account, Side};
 use market::refusal::Refusal;
@@ -80,7 +80,7 @@ fn a_customers_remainder_is_exposed_and_sent(rt: HostRuntime) -> Result<(), Fail
         &rt,
         Account::Customer,
         clock(3_000),
-        &[row(RowKind::Sent, 4, 0, 205, 3)],
+        &[departure(RowKind::Sent, 4, 205, 3)],
     )
 }
 
@@ -90,7 +90,7 @@ fn a_linkage_remainder_is_exposed_and_returned(rt: HostRuntime) -> Result<(), Fa
         &rt,
         Account::Linkage,
         clock(3_000),
-        &[row(RowKind::Returned, 4, 0, 0, 3)],
+        &[departure(RowKind::Returned, 4, 0, 3)],
     )
 }
 
@@ -124,8 +124,8 @@ fn auctions_by_both_rules(rt: HostRuntime) -> Result<(), Fail> {
             trade(1, 3, 207, 5),
             trade(1, 2, 208, 8),
             trade(1, 4, 208, 7),
-            row(RowKind::Withdrawn, 2, 0, 0, 12),
-            row(RowKind::Withdrawn, 4, 0, 0, 3),
+            departure(RowKind::Withdrawn, 2, 0, 12),
+            departure(RowKind::Withdrawn, 4, 0, 3),
         ],
     )?;
     check_auction(
@@ -135,8 +135,8 @@ fn auctions_by_both_rules(rt: HostRuntime) -> Result<(), Fail> {
             trade(1, 3, 207, 5),
             trade(1, 2, 208, 10),
             trade(1, 4, 208, 5),
-            row(RowKind::Withdrawn, 2, 0, 0, 10),
-            row(RowKind::Withdrawn, 4, 0, 0, 5),
+            departure(RowKind::Withdrawn, 2, 0, 10),
+            departure(RowKind::Withdrawn, 4, 0, 5),
         ],
     )
 }
@@ -151,13 +151,7 @@ fn a_full_book(rt: HostRuntime) -> Result<(), Fail> {
     calls.push(open(0))?;
     calls.push(enter(0, buys(8, Account::Customer, 1), 195))?;
     let journal = replay(rt.alloc(), ProRata, 1, Close::new(CLOSE)?, &calls)?;
-    let mut refused = 0u32;
-    for entry in &journal {
-        if refusal(entry) == 8 && refused < 10 {
-            refused += 1;
-        }
-    }
-    assert_eq!(rt; refused, 2);
+    assert_eq!(rt; count_full(&journal), 2);
     Ok(())
 }
 
@@ -174,20 +168,12 @@ fn an_auction_of_32_orders(rt: HostRuntime) -> Result<(), Fail> {
     calls.push(improve(0, 41, 206, 1, Some(3)))?;
     calls.push(finish(3_000, ticket(1, false)))?;
     let journal = replay(rt.alloc(), ProRata, 1, Close::new(CLOSE)?, &calls)?;
-    let mut refused = 0u32;
-    for entry in &journal {
-        if refusal(entry) == 8 && refused < 10 {
-            refused += 1;
-        }
-    }
-    assert_eq!(rt; refused, 1);
-    match journal.last() {
-        Some(entry) => {
-            assert!(rt; crate::journals::row_count(entry) == 33);
-            Ok(())
-        },
-        None => Err(Fail::new("the journal is empty")),
-    }
+    assert_eq!(rt; count_full(&journal), 1);
+    let Some(entry) = journal.last() else {
+        return Err(Fail::new("the journal is empty"));
+    };
+    assert_eq!(rt; row_count(entry), 33);
+    Ok(())
 }
 
 // Places an order and withdraws it again.

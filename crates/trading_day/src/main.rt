@@ -43,15 +43,9 @@ fn print_questions(rt: &HostRuntime, close: Close) -> io::Result<()> {
 
 fn print_day(rt: &HostRuntime, close: Close) -> anyhow::Result<()> {
     let mut calls: Vec<DayCall> = Vec::new(rt.alloc());
-    for call in trading_day::opening() {
-        calls.push(call)?;
-    }
-    for call in trading_day::trading() {
-        calls.push(call)?;
-    }
-    for call in trading_day::auction() {
-        calls.push(call)?;
-    }
+    calls.extend_from_slice(&trading_day::opening())?;
+    calls.extend_from_slice(&trading_day::trading())?;
+    calls.extend_from_slice(&trading_day::auction())?;
     let journal = replay(rt.alloc(), TimeWithGuarantee, SERIES, close, &calls)?;
     for entry in &journal {
         print_entry(rt, entry)?;

@@ -1,13 +1,14 @@
 // One line for each call, answer and row.
-use market::order::{Account, OrderKind, Side};
-use market::row::{Row, RowKind};
+use market::order::{OrderKind, Side};
+use market::row::{NO_PRICE, Row};
 use market::units::Cents;
 use series::day::{
-    AwayCall, CallAnswer, DayCall, EnterCall, ImproveCall, JournalEntry, NewNumbers, PlaceCall,
+    Accepted, AwayCall, DayCall, EnterCall, ImproveCall, JournalEntry, NewNumbers, PlaceCall,
     StartCall,
 };
 use std::io;
 
+// No `Display`: this is a word of the program's lines, and the type is another crate's.
 fn verb(side: Side) -> &'static str {
     match side {
         Side::Buy => "buys",
@@ -15,37 +16,22 @@ fn verb(side: Side) -> &'static str {
     }
 }
 
-fn letter(account: Account) -> &'static str {
-    match account {
-        Account::Customer => "C",
-        Account::Linkage => "L",
-        Account::MarketMaker => "M",
-    }
-}
-
-fn kind_letter(kind: RowKind) -> &'static str {
-    match kind {
-        RowKind::Trade => "T",
-        RowKind::Sent => "S",
-        RowKind::Returned => "R",
-        RowKind::Withdrawn => "W",
-    }
-}
-
 // A price of an away market, 0 for none.
-fn or_zero(price: Option<Cents>) -> u32 {
-    match price {
-        Some(cents) => cents.value,
-        None => 0,
-    }
+fn or_zero(price: Option<Cents>) -> Cents {
+    price.unwrap_or(NO_PRICE)
 }
 
 fn print_place(rt: &HostRuntime, call: PlaceCall) -> io::Result<()> {
-    let (time, member, size) = (call.time.count, call.member, call.size.count);
-    let (verb, account) = (verb(call.side), letter(call.account));
+    let PlaceCall {
+        time,
+        member,
+        account,
+        size,
+        ..
+    } = call;
+    let verb = verb(call.side);
     match call.kind {
         OrderKind::Limit(price) => {
-            let price = price.value;
             println!(rt; "{time:>6} place    {member} {verb} {size} at {price} ({account})")
         }
         OrderKind::MarketOnOpening => {
@@ -55,26 +41,44 @@ fn print_place(rt: &HostRuntime, call: PlaceCall) -> io::Result<()> {
 }
 
 fn print_enter(rt: &HostRuntime, call: EnterCall) -> io::Result<()> {
-    let (time, member, size) = (call.time.count, call.member, call.size.count);
-    let (verb, account, price) = (verb(call.side), letter(call.account), call.price.value);
+    let EnterCall {
+        time,
+        member,
+        account,
+        price,
+        size,
+        ..
+    } = call;
+    let verb = verb(call.side);
     println!(rt; "{time:>6} enter    {member} {verb} {size} at {price} ({account})")
 }
 
 fn print_away(rt: &HostRuntime, call: AwayCall) -> io::Result<()> {
-    let (time, market) = (call.time.count, call.market);
+    let (time, market) = (call.time, call.market);
     let (bid, offer) = (or_zero(call.bid), or_zero(call.offer));
     println!(rt; "{time:>6} away     market {market} bids {bid}, offers {offer}")
 }
 
 fn print_start(rt: &HostRuntime, call: StartCall) -> io::Result<()> {
-    let (time, member, size) = (call.time.count, call.member, call.size.count);
-    let (verb, price) = (verb(call.side), call.price.value);
+    let StartCall {
+        time,
+        member,
+        price,
+        size,
+        ..
+    } = call;
+    let verb = verb(call.side);
     println!(rt; "{time:>6} start    {member}: its customer {verb} {size} at {price}")
 }
 
 fn print_improve(rt: &HostRuntime, call: ImproveCall) -> io::Result<()> {
-    let (time, member, size) = (call.time.count, call.member, call.size.count);
-    let price = call.price.value;
+    let ImproveCall {
+        time,
+        member,
+        price,
+        size,
+        ..
+    } = call;
     match call.replaces {
         Some(order) => {
             println!(rt;
@@ -85,47 +89,32 @@ fn print_improve(rt: &HostRuntime, call: ImproveCall) -> io::Result<()> {
     }
 }
 
-// A call that names little more than its time.
-fn print_short(rt: &HostRuntime, call: DayCall) -> io::Result<()> {
+fn print_call(rt: &HostRuntime, call: DayCall) -> io::Result<()> {
     match call {
+        DayCall::Place(call) => print_place(rt, call),
         DayCall::Withdraw(call) => {
-            let (time, member, order) = (call.time.count, call.member, call.order);
+            let (time, member, order) = (call.time, call.member, call.order);
             println!(rt; "{time:>6} withdraw {member} order {order}")
         }
-        DayCall::Open(call) => {
-            let time = call.time.count;
-            println!(rt; "{time:>6} open")
-        }
-        DayCall::Clock(call) => {
-            let time = call.time.count;
-            println!(rt; "{time:>6} clock")
-        }
+        DayCall::Away(call) => print_away(rt, call),
+        DayCall::Open(call) => println!(rt; "{:>6} open", call.time),
+        DayCall::Enter(call) => print_enter(rt, call),
+        DayCall::Clock(call) => println!(rt; "{:>6} clock", call.time),
+        DayCall::Start(call) => print_start(rt, call),
+        DayCall::Improve(call) => print_improve(rt, call),
         DayCall::Better(call) => {
-            let (time, customer, price) = (call.time.count, call.ticket.customer, call.price.value);
+            let (time, customer, price) = (call.time, call.ticket.customer, call.price);
             println!(rt; "{time:>6} better   auction of {customer}: the starter's price is {price}")
         }
         DayCall::Finish(call) => {
-            let (time, customer) = (call.time.count, call.ticket.customer);
+            let (time, customer) = (call.time, call.ticket.customer);
             println!(rt; "{time:>6} finish   auction of {customer}")
         }
-        _ => Ok(()),
-    }
-}
-
-fn print_call(rt: &HostRuntime, call: DayCall) -> io::Result<()> {
-    match call {
-        DayCall::Place(place) => print_place(rt, place),
-        DayCall::Enter(enter) => print_enter(rt, enter),
-        DayCall::Away(away) => print_away(rt, away),
-        DayCall::Start(start) => print_start(rt, start),
-        DayCall::Improve(improve) => print_improve(rt, improve),
-        _ => print_short(rt, call),
     }
 }
 
 fn print_numbers(rt: &HostRuntime, numbers: NewNumbers) -> io::Result<()> {
     match numbers {
-        NewNumbers::None => Ok(()),
         NewNumbers::One(order) => println!(rt; "         order {order}"),
         NewNumbers::Two(customer, starter) => {
             println!(rt; "         orders {customer} (customer) and {starter} (starter)")
@@ -134,13 +123,25 @@ fn print_numbers(rt: &HostRuntime, numbers: NewNumbers) -> io::Result<()> {
 }
 
 fn print_row(rt: &HostRuntime, row: Row) -> io::Result<()> {
-    let (kind, first, second) = (kind_letter(row.kind), row.first, row.second);
-    let (price, contracts) = (row.price.value, row.contracts.count);
+    let Row {
+        kind,
+        first,
+        second,
+        price,
+        contracts,
+    } = row;
     println!(rt; "         {kind} {first:>3} {second:>3} {price:>5} x {contracts}")
 }
 
-fn print_rows(rt: &HostRuntime, rows: &[Row], count: usize) -> io::Result<()> {
-    for row in rows.iter().take(count) {
+// What an accepted call answers, with its rows, which stand first in its memory.
+fn print_accepted(rt: &HostRuntime, accepted: Accepted, memory: &[Row]) -> io::Result<()> {
+    if let Some(numbers) = accepted.numbers {
+        print_numbers(rt, numbers)?;
+    }
+    if let Some((price, quantity)) = accepted.opening {
+        println!(rt; "         opens at {price}, {quantity} contracts trade")?;
+    }
+    for row in memory.iter().take(accepted.rows) {
         print_row(rt, *row)?;
     }
     Ok(())
@@ -150,17 +151,10 @@ fn print_rows(rt: &HostRuntime, rows: &[Row], count: usize) -> io::Result<()> {
 pub fn print_entry(rt: &HostRuntime, entry: &JournalEntry) -> io::Result<()> {
     print_call(rt, entry.call)?;
     match entry.outcome.answer {
-        CallAnswer::Refused(number) => println!(rt; "         refused by {number}"),
-        CallAnswer::Accepted {
-            rows,
-            numbers,
-            opening,
-        } => {
-            print_numbers(rt, numbers)?;
-            if let Some((price, quantity)) = opening {
-                println!(rt; "         opens at {price}, {quantity} contracts trade")?;
-            }
-            print_rows(rt, &entry.memory, rows)
+        Ok(accepted) => print_accepted(rt, accepted, &entry.memory),
+        Err(refusal) => {
+            let number = refusal.number();
+            println!(rt; "         refused by {number}")
         }
     }
 }

@@ -3,19 +3,20 @@ use market::refusal::Refusal;
 use market::units::Contracts;
 use sharing::pro_rata::ProRata;
 use sharing::rule::SharingRule;
+use sharing::sums::sum_of;
 use sharing::time::TimeWithGuarantee;
 use std::alloc::{AllocError, Global};
 use std::process::Abort;
 use std::test::*;
 
 fn contracts(heap: Global, counts: &[u32]) -> Result<Vec<Contracts>, AllocError> {
-    let mut list = Vec::new(heap);
-    for count in counts {
-        list.push(Contracts { count: *count })?;
-    }
-    Ok(list)
+    counts
+        .iter()
+        .map(|count| Contracts { count: *count })
+        .collect(heap)
 }
 
+// The parts of a case are parameters, so that a case is one line; as a struct it would take seven.
 fn expect<R: SharingRule>(
     rt: &(impl Abort + AllocGlobal),
     rule: &R,
@@ -137,4 +138,16 @@ fn expect_refusals<R: SharingRule>(rt: &(impl Abort + AllocGlobal), rule: &R) ->
 fn refusals(rt: HostRuntime) -> Result<(), Fail> {
     expect_refusals(&rt, &TimeWithGuarantee)?;
     expect_refusals(&rt, &ProRata)
+}
+
+#[test]
+fn sums(rt: HostRuntime) -> Result<(), Fail> {
+    let most = [Contracts { count: 9_999 }; 161];
+    assert_eq!(rt; sum_of(&[]), Contracts::NONE);
+    assert_eq!(rt;
+        sum_of(&[Contracts { count: 7 }, Contracts { count: 5 }]).count,
+        12
+    );
+    assert_eq!(rt; sum_of(&most).count, 1_609_839);
+    Ok(())
 }

@@ -1,7 +1,7 @@
 // Prices and sizes at the ends of their spans, and prices beside the grid's steps.
 use market::close::Close;
 use market::refusal::Refusal;
-use market::units::{Cents, Contracts};
+use market::units::{Cents, Contracts, Millis};
 use std::test::*;
 
 fn cents(value: u32) -> Cents {
@@ -12,6 +12,7 @@ fn size(count: u32) -> Contracts {
     Contracts { count }
 }
 
+// This and `sizes` are a case each of two spans.
 #[test]
 fn prices(rt: HostRuntime) -> Result<(), Fail> {
     assert_eq!(rt; cents(0).check_price(), Err(Refusal::BadPrice));
@@ -74,5 +75,15 @@ fn refusal_numbers(rt: HostRuntime) -> Result<(), Fail> {
     assert_eq!(rt; Refusal::BadPrice.number(), 5);
     assert_eq!(rt; Refusal::OutOfBounds.number(), 7);
     assert_eq!(rt; Refusal::BadQuote.number(), 16);
+    Ok(())
+}
+
+#[test]
+fn printed_units(rt: HostRuntime) -> Result<(), Fail> {
+    let heap = rt.alloc();
+    let padded = format!(in heap; "{:>6} {:>6}", cents(205), size(9_999))?;
+    assert_eq!(rt; padded.as_str(), "   205   9999");
+    let bare = format!(in heap; "{}", Millis { count: 86_400_000 })?;
+    assert_eq!(rt; bare.as_str(), "86400000");
     Ok(())
 }

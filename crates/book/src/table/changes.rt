@@ -1,5 +1,5 @@
 // What can be done with the table.
-ghost use Rattle.std.specs.Prelude.{◌≡◌, ◌+◌, [], ◌∷◌, ◌++◌, filter as kept_by};
+ghost use Rattle.std.specs.Prelude.{◌≡◌, ◌+◌, ◌≤◌, [], ◌∷◌, ◌++◌, filter as kept_by};
 ghost use Rattle.book.specs.Filters.{passes};
 ghost use Rattle.book.specs.Orders.{orders};
 ghost use Rattle.book.specs.Records.{Live};
@@ -48,6 +48,15 @@ impl Table {
         self.records = records;
         self.count += 1;
         self.next = order.number as u32 + 1;
+    }
+
+    // Uses up the next number without an order.
+    pub fn skip_number(&mut self)
+        requires left { self.old.next ≤ 65535 }
+        ensures records { orders self.new ≡ orders self.old }
+        ensures numbers { self.new.next ≡ self.old.next + 1 }
+    {
+        self.next += 1;
     }
 
     // Puts other orders in the place of the live ones.

@@ -1,12 +1,14 @@
 // What a table is asked.
-ghost use Rattle.std.specs.Prelude.{◌≡◌, sum_by, filter as kept_by};
+ghost use Rattle.std.specs.Prelude.{◌≡◌, true, sum_by, filter as kept_by};
+ghost use Rattle.std.specs.List.{AllByRecursion};
 ghost use Rattle.market.specs.Words.{standing};
-ghost use Rattle.order_table.specs.Filters.{passes};
-ghost use Rattle.order_table.specs.Orders.{orders};
-ghost use Rattle.order_table.specs.Records.{Live};
+ghost use Rattle.book.specs.Filters.{passes};
+ghost use Rattle.book.specs.Records.{Live};
+ghost use Rattle.order_table.specs.Orders.{orders, next_number};
+ghost use Rattle.order_table.specs.Records.{priced};
 
-use crate::select::{Filter, volume};
 use crate::table::Table;
+use book::select::{Filter, volume};
 use market::order::Order;
 use market::units::Contracts;
 
@@ -14,16 +16,17 @@ impl Table {
     // The live records.
     pub fn live(&self) -> &[Order]
         ensures is { result.now ≡ orders self.now }
-        ensures kept { Live result.now self.now.next }
+        ensures kept { Live result.now (next_number self.now) }
+        ensures priced { AllByRecursion (λ o. priced o ≡ true) result.now }
     {
-        &self.records[0..self.count]
+        self.records.live()
     }
 
     // The number of the next order.
     pub fn next(&self) -> u32
-        ensures { result ≡ self.now.next }
+        ensures { result ≡ next_number self.now }
     {
-        self.next
+        self.records.next()
     }
 
     // The contracts that stand of the orders that pass.

@@ -7,8 +7,8 @@ ghost use Rattle.rules.specs.Calls as calls;
 ghost use Rattle.rules.specs.Calls.{new_order};
 ghost use Rattle.rules.specs.Runs.{nothing};
 ghost use Rattle.rules.specs.Runs as runs;
-ghost use Rattle.order_table.specs.Orders.{orders};
-ghost use Rattle.order_table.specs.Records.{customers, auction_contra};
+ghost use Rattle.order_table.specs.Orders.{orders, next_number};
+ghost use Rattle.book.specs.Records.{customers, auction_contra};
 ghost use Rattle.series.specs.Answers.{Answers, told_start, told_entry, handed_start};
 ghost use Rattle.series.specs.Contra.{contra_side};
 ghost use Rattle.series.specs.State.{state};
@@ -16,6 +16,7 @@ ghost use Rattle.series.specs.Tickets.{shown};
 
 use crate::answer::{Entered, Started};
 use crate::pass::TradingPass;
+use crate::phase::Phase;
 use crate::series::Series;
 use crate::series::orders::{maker_order, new_order, replace_order};
 use crate::ticket::Ticket;
@@ -34,23 +35,20 @@ const AUCTION_LENGTH: u32 = 3_000;
 fn contra_side(auction: Option<Auction>) -> Side
     ensures { result ≡ contra_side auction }
 {
-    match auction {
-        Some(a) => a.side.other(),
-        None => Side::Sell,
-    }
+    auction.map_or(Side::Sell, |auction| auction.side.other())
 }
 
 // Adds the customer's and the starter's order of a new auction.
 fn append_pair(table: &mut Table, member: u16, side: Side, price: Cents, size: Contracts) -> Started
-    requires numbers { table.old.next + 2 ≤ 65536 }
+    requires numbers { next_number table.old + 2 ≤ 65536 }
     requires price { price.value ≤ 99999 }
     requires size { size.count ≤ 9999 }
     requires customers { count_by customers (orders table.old) ≡ 0 }
     requires contra { count_by auction_contra (orders table.old) ≡ 0 }
-    ensures records { orders table.new ≡ orders table.old ++ new_order table.old.next member side Customer (limit_at price.value) size.count Auctioned ∷ new_order (table.old.next + 1) member (other side) MarketMaker (limit_at price.value) size.count Starter ∷ [] }
-    ensures numbers { table.new.next ≡ table.old.next + 2 }
-    ensures customer { result.customer ≡ table.old.next }
-    ensures starter { result.starter ≡ table.old.next + 1 }
+    ensures records { orders table.new ≡ orders table.old ++ new_order (next_number table.old) member side Customer (limit_at price.value) size.count Auctioned ∷ new_order (next_number table.old + 1) member (other side) MarketMaker (limit_at price.value) size.count Starter ∷ [] }
+    ensures numbers { next_number table.new ≡ next_number table.old + 2 }
+    ensures customer { result.customer ≡ next_number table.old }
+    ensures starter { result.starter ≡ next_number table.old + 1 }
 {
     let customer = table.next() as u16;
     let starter = customer + 1;
@@ -86,7 +84,7 @@ impl<R: SharingRule> Series<R> {
     {
         self.check_start(pass, time, member, side, price, size)?;
         let started = append_pair(&mut self.table, member, side, price, size);
-        self.auction = Some(Auction {
+        let auction = Auction {
             customer: started.customer,
             starter: started.starter,
             member,
@@ -95,7 +93,10 @@ impl<R: SharingRule> Series<R> {
             end: Millis {
                 count: time.count + AUCTION_LENGTH,
             },
-        });
+        };
+        self.phase = Phase::Trading {
+            auction: Some(auction),
+        };
         self.time = time;
         let ticket = Ticket {
             series: self.number,
@@ -122,7 +123,7 @@ impl<R: SharingRule> Series<R> {
         self.check_improve(pass, time, member, price, size, replaces, rows)?;
         let old = self.replaced(member, replaces);
         let number = self.table.next() as u16;
-        let side = contra_side(self.auction);
+        let side = contra_side(self.phase.auction());
         let order = maker_order(number, member, side, price, size, Role::Competing);
         let count = replace_order(&mut self.table, old, order, rows);
         self.time = time;
@@ -145,10 +146,8 @@ impl<R: SharingRule> Series<R> {
         ensures answers { Answers (R.shared self.old.rule) (state self.old) (state self.new) rows.new (told_entry result) (runs.ticket (shown ticket.now)) (calls.better pass.now.series (shown ticket.now) time price rows.old) }
     {
         self.check_better(pass, ticket, time, price, rows)?;
-        // never refused here: the ticket is of a running auction
-        let Some(auction) = self.auction else {
-            return Err(Refusal::WrongPass);
-        };
+        // The ticket is of a running auction.
+        let auction = self.phase.auction().unwrap();
         let old = self.starter_order(auction);
         let number = self.table.next() as u16;
         let side = auction.side.other();
@@ -161,10 +160,13 @@ impl<R: SharingRule> Series<R> {
             Role::Starter,
         );
         let count = replace_order(&mut self.table, old, order, rows);
-        self.auction = Some(Auction {
+        let bettered = Auction {
             starter: number,
             ..auction
-        });
+        };
+        self.phase = Phase::Trading {
+            auction: Some(bettered),
+        };
         self.time = time;
         Ok(Entered {
             rows: count,

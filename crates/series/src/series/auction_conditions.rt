@@ -9,11 +9,11 @@ ghost use Rattle.series.specs.Tickets.{shown};
 
 use crate::series::Series;
 use crate::ticket::Ticket;
+use book::select::{Filter, count, find};
 use market::auction::Auction;
 use market::order::{Order, Side};
 use market::units::{Cents, Contracts, Millis};
 use order_table::prices::{better_price, book_best, is_better};
-use order_table::select::{Filter, count, find};
 use sharing::rule::SharingRule;
 
 // Places for the starter's order and the competing ones.
@@ -23,49 +23,36 @@ const AUCTION_PLACES: usize = 32;
 fn is_not_below(side: Side, price: Cents, best: Option<Cents>) -> bool
     ensures { result ≡ not_below_best side price.value (cents best) }
 {
-    match best {
-        Some(b) => !is_better(side, price, b),
-        None => true,
-    }
+    best.is_none_or(|best| !is_better(side, price, best))
 }
 
 pub(super) fn is_starters_member(member: u16, auction: Option<Auction>) -> bool
     ensures { result ≡ starters_member member auction }
 {
-    match auction {
-        Some(a) => member == a.member,
-        None => false,
-    }
+    auction.is_some_and(|auction| member == auction.member)
 }
 
 fn is_not_its_customer(number: u16, auction: Option<Auction>) -> bool
     ensures { result ≡ not_its_customer number auction }
 {
-    match auction {
-        Some(a) => number != a.customer,
-        None => true,
-    }
+    auction.is_none_or(|auction| number != auction.customer)
 }
 
 pub(super) fn is_before_end(time: Millis, auction: Option<Auction>) -> bool
     ensures { result ≡ before_end time.count auction }
 {
-    match auction {
-        Some(a) => time.count < a.end.count,
-        None => false,
-    }
+    auction.is_some_and(|auction| time < auction.end)
 }
 
 // Whether an order would be replaced at a worse price, by a larger one, or by one that alters neither.
 fn is_bad_replacement(side: Side, price: Cents, size: Contracts, old: Option<Order>) -> bool
     ensures { result ≡ bad_replacement side price.value size.count old }
 {
-    match old {
-        Some(o) => is_better(side, o.kind.price(), price)
-            || o.size.count < size.count
-            || (o.kind.price().value == price.value && o.size.count == size.count),
-        None => false,
-    }
+    old.is_some_and(|old| {
+        is_better(side, old.kind.price(), price)
+            || old.size < size
+            || (old.kind.price() == price && old.size == size)
+    })
 }
 
 impl<R: SharingRule> Series<R> {
@@ -89,7 +76,7 @@ impl<R: SharingRule> Series<R> {
     {
         ticket.series != self.number
             || ticket.discharged
-            || is_not_its_customer(ticket.customer, self.auction)
+            || is_not_its_customer(ticket.customer, self.phase.auction())
     }
 
     // Whether no place is left for one more order besides the customer's.
@@ -103,10 +90,7 @@ impl<R: SharingRule> Series<R> {
     pub(super) fn replaced(&self, member: u16, replaces: Option<u16>) -> Option<Order>
         ensures { result ≡ model.replaced member replaces (state self.now) }
     {
-        match replaces {
-            Some(number) => find(self.table.live(), Filter::CompetingOf(member, number)),
-            None => None,
-        }
+        replaces.and_then(|number| find(self.table.live(), Filter::CompetingOf(member, number)))
     }
 
     // The starter's order.
@@ -120,10 +104,8 @@ impl<R: SharingRule> Series<R> {
     fn starter_price(&self, auction: Auction) -> Cents
         ensures { result.value ≡ starter_price (state self.now) auction }
     {
-        match self.starter_order(auction) {
-            Some(order) => order.kind.price(),
-            None => Cents { value: 0 },
-        }
+        self.starter_order(auction)
+            .map_or(Cents { value: 0 }, |order| order.kind.price())
     }
 
     // Whether a price and a size are no improvement, given the order that is replaced.
@@ -135,24 +117,21 @@ impl<R: SharingRule> Series<R> {
     ) -> bool
         ensures { result ≡ bad_improvement price.value size.count old (state self.now) }
     {
-        match self.auction {
-            Some(auction) => {
-                let starter = self.starter_price(auction);
-                is_better(auction.side, starter, price)
-                    || auction.size.count < size.count
-                    || is_bad_replacement(auction.side, price, size, old)
-            }
-            None => false,
-        }
+        self.phase.auction().is_some_and(|auction| {
+            is_better(auction.side, self.starter_price(auction), price)
+                || auction.size < size
+                || is_bad_replacement(auction.side, price, size, old)
+        })
     }
 
     // Whether a price is no better than that of the starter's order.
     pub(super) fn is_not_bettered(&self, price: Cents) -> bool
         ensures { result ≡ not_bettered price.value (state self.now) }
     {
-        match self.auction {
-            Some(auction) => !is_better(auction.side, price, self.starter_price(auction)),
-            None => true,
-        }
+        self.phase.auction().is_none_or(|auction| !is_better(
+            auction.side,
+            price,
+            self.starter_price(auction),
+        ))
     }
 }

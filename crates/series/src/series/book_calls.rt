@@ -9,12 +9,12 @@ use crate::answer::Entered;
 use crate::pass::PreOpeningPass;
 use crate::series::Series;
 use crate::series::orders::new_order;
+use book::select::Filter;
 use market::order::{Account, OrderKind, Role, Side};
 use market::refusal::Refusal;
 use market::row::Row;
 use market::units::{Contracts, Millis};
 use order_table::departures::{Departure, write_departures};
-use order_table::select::Filter;
 use sharing::rule::SharingRule;
 
 impl<R: SharingRule> Series<R> {

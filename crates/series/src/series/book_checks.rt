@@ -1,4 +1,5 @@
-// When the calls on the book and on away prices are refused.
+// When the calls on the book and on away prices are refused. A check has its call's own parameters: a struct of them
+// would be made for this one use.
 ghost use Rattle.std.specs.Prelude.{◌≡◌, IfOk, Some};
 ghost use Rattle.market.specs.Refusals.{refused_by, first_hit};
 ghost use Rattle.rules.specs.Calls.{checks};
@@ -9,11 +10,11 @@ ghost use Rattle.series.specs.State.{state};
 use crate::pass::{PreOpeningPass, TradingPass};
 use crate::series::Series;
 use crate::series::conditions::{DAY_END, LAST_BEGIN, are_few, is_bad_member};
+use book::select::{Filter, find};
 use market::order::{Account, Order, OrderKind, Side};
-use market::refusal::Refusal;
+use market::refusal::{Refusal, refuse_if};
 use market::row::Row;
 use market::units::{Cents, Contracts, Millis};
-use order_table::select::{Filter, find};
 use sharing::rule::SharingRule;
 
 const MARKETS: u8 = 8;
@@ -30,22 +31,14 @@ fn is_off_grid(kind: OrderKind) -> bool
 fn is_bad_quote(price: Option<Cents>) -> bool
     ensures { result ≡ bad_quote price }
 {
-    match price {
-        Some(p) => !p.is_price(),
-        None => false,
-    }
+    price.is_some_and(|price| !price.is_price())
 }
 
 // Whether a bid is not below the offer.
 fn is_crossed(bid: Option<Cents>, offer: Option<Cents>) -> bool
     ensures { result ≡ crossed bid offer }
 {
-    match (bid, offer) {
-        (Some(b), Some(o)) => o.value <= b.value,
-        (Some(_), None) => false,
-        (None, Some(_)) => false,
-        (None, None) => false,
-    }
+    bid.zip(offer).is_some_and(|(bid, offer)| offer <= bid)
 }
 
 impl<R: SharingRule> Series<R> {
@@ -61,28 +54,13 @@ impl<R: SharingRule> Series<R> {
     ) -> Result<(), Refusal>
         ensures { refused_by result ≡ first_hit (checks (state self.now) (calls.place pass.now.series time member side account kind size)) }
     {
-        if self.is_wrong_pass(pass.series, false) {
-            return Err(Refusal::WrongPass);
-        }
-        if self.is_early_or_late(time, DAY_END) {
-            return Err(Refusal::BadTime);
-        }
-        if is_bad_member(member) {
-            return Err(Refusal::BadMember);
-        }
-        if is_off_grid(kind) {
-            return Err(Refusal::BadPrice);
-        }
-        if !size.is_size() {
-            return Err(Refusal::BadSize);
-        }
-        if self.is_book_full() {
-            return Err(Refusal::Full);
-        }
-        if self.is_short_of_numbers(1) {
-            return Err(Refusal::NumbersUsedUp);
-        }
-        Ok(())
+        refuse_if(self.is_wrong_pass(pass.series, false), Refusal::WrongPass)?;
+        refuse_if(self.is_early_or_late(time, DAY_END), Refusal::BadTime)?;
+        refuse_if(is_bad_member(member), Refusal::BadMember)?;
+        refuse_if(is_off_grid(kind), Refusal::BadPrice)?;
+        refuse_if(!size.is_size(), Refusal::BadSize)?;
+        refuse_if(self.is_book_full(), Refusal::Full)?;
+        refuse_if(self.is_short_of_numbers(1), Refusal::NumbersUsedUp)
     }
 
     // Answers the order to be withdrawn.
@@ -96,22 +74,11 @@ impl<R: SharingRule> Series<R> {
         ensures refusal { refused_by result ≡ first_hit (checks (state self.now) (calls.withdraw time member order rows.now)) }
         ensures order { IfOk result (λ o. found (book_order member order) (state self.now).orders ≡ Some o) }
     {
-        if self.is_early_or_late(time, DAY_END) {
-            return Err(Refusal::BadTime);
-        }
-        if self.is_something_due(time) {
-            return Err(Refusal::EndDue);
-        }
-        if is_bad_member(member) {
-            return Err(Refusal::BadMember);
-        }
-        if are_few(rows) {
-            return Err(Refusal::OutOfBounds);
-        }
-        match find(self.table.live(), Filter::OwnedBy(member, order)) {
-            Some(found) => Ok(found),
-            None => Err(Refusal::NoSuchOrder),
-        }
+        refuse_if(self.is_early_or_late(time, DAY_END), Refusal::BadTime)?;
+        refuse_if(self.is_something_due(time), Refusal::EndDue)?;
+        refuse_if(is_bad_member(member), Refusal::BadMember)?;
+        refuse_if(are_few(rows), Refusal::OutOfBounds)?;
+        find(self.table.live(), Filter::OwnedBy(member, order)).ok_or(Refusal::NoSuchOrder)
     }
 
     pub(super) fn check_away(
@@ -123,19 +90,13 @@ impl<R: SharingRule> Series<R> {
     ) -> Result<(), Refusal>
         ensures { refused_by result ≡ first_hit (checks (state self.now) (calls.away time market bid offer)) }
     {
-        if self.is_early_or_late(time, DAY_END) {
-            return Err(Refusal::BadTime);
-        }
-        if self.is_something_due(time) {
-            return Err(Refusal::EndDue);
-        }
-        if is_bad_quote(bid) || is_bad_quote(offer) {
-            return Err(Refusal::BadPrice);
-        }
-        if market == 0 || market > MARKETS || is_crossed(bid, offer) {
-            return Err(Refusal::BadQuote);
-        }
-        Ok(())
+        refuse_if(self.is_early_or_late(time, DAY_END), Refusal::BadTime)?;
+        refuse_if(self.is_something_due(time), Refusal::EndDue)?;
+        refuse_if(is_bad_quote(bid) || is_bad_quote(offer), Refusal::BadPrice)?;
+        refuse_if(
+            market == 0 || market > MARKETS || is_crossed(bid, offer),
+            Refusal::BadQuote,
+        )
     }
 
     pub(super) fn check_enter(
@@ -151,45 +112,21 @@ impl<R: SharingRule> Series<R> {
     ) -> Result<(), Refusal>
         ensures { refused_by result ≡ first_hit (checks (state self.now) (calls.enter pass.now.series time member side account price size rows.now)) }
     {
-        if self.is_wrong_pass(pass.series, true) {
-            return Err(Refusal::WrongPass);
-        }
-        if self.is_early_or_late(time, LAST_BEGIN) {
-            return Err(Refusal::BadTime);
-        }
-        if self.is_something_due(time) {
-            return Err(Refusal::EndDue);
-        }
-        if is_bad_member(member) {
-            return Err(Refusal::BadMember);
-        }
-        if !price.is_on_grid() {
-            return Err(Refusal::BadPrice);
-        }
-        if !size.is_size() {
-            return Err(Refusal::BadSize);
-        }
-        if are_few(rows) {
-            return Err(Refusal::OutOfBounds);
-        }
-        if self.is_book_full() {
-            return Err(Refusal::Full);
-        }
-        if self.is_short_of_numbers(1) {
-            return Err(Refusal::NumbersUsedUp);
-        }
-        Ok(())
+        refuse_if(self.is_wrong_pass(pass.series, true), Refusal::WrongPass)?;
+        refuse_if(self.is_early_or_late(time, LAST_BEGIN), Refusal::BadTime)?;
+        refuse_if(self.is_something_due(time), Refusal::EndDue)?;
+        refuse_if(is_bad_member(member), Refusal::BadMember)?;
+        refuse_if(!price.is_on_grid(), Refusal::BadPrice)?;
+        refuse_if(!size.is_size(), Refusal::BadSize)?;
+        refuse_if(are_few(rows), Refusal::OutOfBounds)?;
+        refuse_if(self.is_book_full(), Refusal::Full)?;
+        refuse_if(self.is_short_of_numbers(1), Refusal::NumbersUsedUp)
     }
 
     pub(super) fn check_clock(&self, time: Millis, rows: &[Row]) -> Result<(), Refusal>
         ensures { refused_by result ≡ first_hit (checks (state self.now) (calls.clock time rows.now)) }
     {
-        if self.is_early_or_late(time, DAY_END) {
-            return Err(Refusal::BadTime);
-        }
-        if are_few(rows) {
-            return Err(Refusal::OutOfBounds);
-        }
-        Ok(())
+        refuse_if(self.is_early_or_late(time, DAY_END), Refusal::BadTime)?;
+        refuse_if(are_few(rows), Refusal::OutOfBounds)
     }
 }

@@ -8,13 +8,14 @@ ghost use Rattle.series.specs.State.{state};
 
 use crate::away::AwayQuotes;
 use crate::pass::PreOpeningPass;
+use crate::phase::Phase;
 use crate::series::Series;
+use book::select::Filter;
 use discovery::opening_price::top;
 use market::close::Close;
 use market::quote::Quote;
 use market::refusal::Refusal;
 use market::units::{Cents, Contracts, Millis};
-use order_table::select::Filter;
 use order_table::table::Table;
 use sharing::rule::SharingRule;
 
@@ -29,11 +30,10 @@ impl<R: SharingRule> Series<R> {
             rule,
             number,
             close,
-            trading: false,
+            phase: Phase::PreOpening,
             time: Millis { count: 0 },
             away: AwayQuotes::new(),
             table: Table::new(),
-            auction: None,
         };
         (series, PreOpeningPass { series: number })
     }

@@ -5,10 +5,10 @@ ghost use Rattle.rules.specs.Series.{early_or_late, exposure_due, auction_due, s
 ghost use Rattle.series.specs.State.{state};
 
 use crate::series::Series;
+use book::select::{Filter, count};
 use market::auction::Auction;
 use market::row::Row;
 use market::units::Millis;
-use order_table::select::{Filter, count};
 use sharing::rule::SharingRule;
 
 // The last time of a day, and the last at which an exposure or an auction may begin.
@@ -32,7 +32,8 @@ pub(super) fn is_bad_member(member: u16) -> bool
     member == 0 || member > LAST_MEMBER
 }
 
-// Whether fewer rows are lent than a call may write.
+// Whether fewer rows are lent than a call may write. Those that write rows ask for as many: a slice says no length by its
+// type.
 pub(super) fn are_few(rows: &[Row]) -> bool
     ensures { result ≡ few_rows rows.now }
 {
@@ -42,23 +43,20 @@ pub(super) fn are_few(rows: &[Row]) -> bool
 fn is_auction_due(auction: Option<Auction>, time: Millis) -> bool
     ensures { result ≡ auction_due time.count auction }
 {
-    match auction {
-        Some(a) => a.end.count <= time.count,
-        None => false,
-    }
+    auction.is_some_and(|auction| auction.end <= time)
 }
 
 impl<R: SharingRule> Series<R> {
     pub(super) fn is_wrong_pass(&self, series: u16, trading: bool) -> bool
         ensures { result ≡ wrong_pass series trading (state self.now) }
     {
-        series != self.number || self.trading != trading
+        series != self.number || self.phase.is_trading() != trading
     }
 
     pub(super) fn is_early_or_late(&self, time: Millis, latest: u32) -> bool
         ensures { result ≡ early_or_late latest time.count (state self.now) }
     {
-        time.count < self.time.count || latest < time.count
+        time < self.time || latest < time.count
     }
 
     pub(super) fn is_exposure_due(&self, time: Millis) -> bool
@@ -71,7 +69,7 @@ impl<R: SharingRule> Series<R> {
     pub(super) fn is_something_due(&self, time: Millis) -> bool
         ensures { result ≡ something_due time.count (state self.now) }
     {
-        self.is_exposure_due(time) || is_auction_due(self.auction, time)
+        self.is_exposure_due(time) || is_auction_due(self.phase.auction(), time)
     }
 
     pub(super) fn is_book_full(&self) -> bool

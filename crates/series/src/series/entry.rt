@@ -1,13 +1,14 @@
 // The entry of an order while the series trades.
 ghost use Rattle.std.specs.Prelude.{◌≡◌, ◌+◌, ◌<◌, ◌≤◌, true, ◌++◌, length, take, drop};
 ghost use Rattle.std.specs.List.{AllByRecursion};
-ghost use Rattle.market.specs.Words.{limit_at, or_else};
+ghost use Rattle.market.specs.Words.{limit_at, or_else, price_of};
 ghost use Rattle.rules.specs.Calls.{resting, remainder};
 ghost use Rattle.rules.specs.Calls as calls;
 ghost use Rattle.rules.specs.Prices.{cents};
+ghost use Rattle.rules.specs.Prices as model;
 ghost use Rattle.rules.specs.Runs.{nothing};
 ghost use Rattle.order_table.specs.Changes.{admissible};
-ghost use Rattle.order_table.specs.Orders.{orders};
+ghost use Rattle.order_table.specs.Orders.{orders, next_number};
 ghost use Rattle.series.specs.Answers.{Answers, told_entry};
 ghost use Rattle.series.specs.Entering.{Enterable, Admitted};
 ghost use Rattle.series.specs.Remainders.{standing_orders, returning_rows};
@@ -19,21 +20,19 @@ use crate::remainder::Remainder;
 use crate::series::Series;
 use crate::series::orders::new_order;
 use crate::series::taking::take_in_bounds;
+use book::allocation::Taking;
+use book::select::Filter;
 use market::order::{Account, Order, OrderKind, Role, Side};
 use market::refusal::Refusal;
-use market::row::{Row, RowKind};
+use market::row::{NO_PRICE, Row, RowKind};
 use market::units::{Cents, Contracts, Millis};
-use matching::allocation::Taking;
 use matching::take::Taker;
 use order_table::prices::{bound, reaches};
-use order_table::select::Filter;
 use order_table::table::Table;
 use sharing::rule::SharingRule;
 
 // How long a remainder is exposed.
 const EXPOSURE: u32 = 3_000;
-
-const NO_PRICE: Cents = Cents { value: 0 };
 
 // What stands of an entering order.
 fn resting_order(order: Order, left: Contracts, kind: OrderKind, exposed: Option<Millis>) -> Order
@@ -51,53 +50,57 @@ fn resting_order(order: Order, left: Contracts, kind: OrderKind, exposed: Option
     }
 }
 
-fn price_or_zero(price: Option<Cents>) -> Cents
-    ensures { result.value ≡ or_else (cents price) 0 }
-{
-    match price {
-        Some(p) => p,
-        None => NO_PRICE,
-    }
-}
-
-// What becomes of a remainder: it is returned or exposed at the away best if that is reached, and stands otherwise.
-fn remainder_of(order: Order, left: Contracts, reached: bool, best: Cents, end: Millis) -> Remainder
+// What becomes of a remainder: it is returned or exposed at the away best if its limit reaches that, and stands otherwise.
+fn remainder_of(
+    order: Order,
+    left: Contracts,
+    best: Option<Cents>,
+    end: Millis,
+) -> Option<Remainder>
     requires { left.count ≤ order.size.count }
-    ensures orders { standing_orders result ≡ (remainder order left.count order.account reached best.value end.count).0 }
-    ensures rows { returning_rows result ≡ (remainder order left.count order.account reached best.value end.count).1 }
+    ensures orders { standing_orders result ≡ (remainder order left.count order.account (model.reaches order.side (price_of order.kind) (cents best)) (or_else (cents best) 0) end.count).0 }
+    ensures rows { returning_rows result ≡ (remainder order left.count order.account (model.reaches order.side (price_of order.kind) (cents best)) (or_else (cents best) 0) end.count).1 }
 {
     if left.count == 0 {
-        return Remainder::Nothing;
+        return None;
     }
-    if !reached {
-        return Remainder::Stands(resting_order(order, left, order.kind, None));
-    }
-    if order.account.is_market_maker() {
-        return Remainder::Returned(Row::departure(RowKind::Returned, order.number, NO_PRICE, left));
-    }
-    Remainder::Stands(resting_order(order, left, OrderKind::Limit(best), Some(end)))
+    Some(match best {
+        Some(price) if reaches(order.side, order.kind.price(), best) => {
+            if order.account.is_market_maker() {
+                Remainder::Returned(Row::departure(RowKind::Returned, order.number, NO_PRICE, left))
+            } else {
+                Remainder::Stands(resting_order(order, left, OrderKind::Limit(price), Some(end)))
+            }
+        }
+        _ => Remainder::Stands(resting_order(order, left, order.kind, None)),
+    })
 }
 
 // Lets a remainder stand, or writes its row behind the first `count`, and answers how many rows there are then.
-fn place_remainder(table: &mut Table, remainder: Remainder, rows: &mut [Row], count: usize) -> usize
+fn place_remainder(
+    table: &mut Table,
+    remainder: Option<Remainder>,
+    rows: &mut [Row],
+    count: usize,
+) -> usize
     requires room { count < length rows.old }
-    requires numbers { table.old.next ≤ 65535 }
-    requires admissible { AllByRecursion (λ o. admissible o (orders table.old) table.old.next ≡ true) (standing_orders remainder) }
+    requires numbers { next_number table.old ≤ 65535 }
+    requires admissible { AllByRecursion (λ o. admissible o (orders table.old) (next_number table.old) ≡ true) (standing_orders remainder) }
     ensures records { orders table.new ≡ orders table.old ++ standing_orders remainder }
-    ensures numbers { table.new.next ≡ table.old.next + 1 }
+    ensures numbers { next_number table.new ≡ next_number table.old + 1 }
     ensures counted { result ≡ count + length (returning_rows remainder) }
     ensures written { rows.new ≡ take count rows.old ++ (returning_rows remainder ++ drop result rows.old) }
 {
     match remainder {
-        Remainder::Nothing => {
+        None => {
             table.skip_number();
             count
         }
-        Remainder::Stands(order) => {
+        Some(Remainder::Stands(order)) => {
             table.append(order);
             count
         }
-        Remainder::Returned(row) => {
+        Some(Remainder::Returned(row)) => {
             table.skip_number();
             rows[count] = row;
             count + 1
@@ -120,8 +123,7 @@ fn enter_order<R: SharingRule>(
     requires room { 192 ≤ length rows.old }
     ensures { Admitted (R.shared rule.now) order (cents best) end.count table.old table.new rows.old rows.new result }
 {
-    let limit = order.kind.price();
-    let reach = bound(order.side, limit, best);
+    let reach = bound(order.side, order.kind.price(), best);
     let taker = Taker {
         side: order.side,
         number: order.number,
@@ -139,8 +141,7 @@ fn enter_order<R: SharingRule>(
         rows,
     );
     let left = order.size - taken.traded;
-    let reached = reaches(order.side, limit, best);
-    let remainder = remainder_of(order, left, reached, price_or_zero(best), end);
+    let remainder = remainder_of(order, left, best, end);
     place_remainder(table, remainder, rows, taken.rows)
 }
 

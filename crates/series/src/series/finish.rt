@@ -3,25 +3,26 @@ ghost use Rattle.std.specs.Prelude.{◌≡◌, ◌≤◌, ◌++◌, map, length,
 ghost use Rattle.rules.specs.Calls.{withdrawn_row, without};
 ghost use Rattle.rules.specs.Calls as calls;
 ghost use Rattle.rules.specs.Runs as runs;
-ghost use Rattle.order_table.specs.Filters.{passes};
+ghost use Rattle.book.specs.Filters.{passes};
 ghost use Rattle.order_table.specs.Orders.{orders};
 ghost use Rattle.series.specs.Answers.{Answers, told_rows};
 ghost use Rattle.series.specs.Finishing.{customer_taker, Finished};
 ghost use Rattle.series.specs.State.{state};
 ghost use Rattle.series.specs.Tickets.{shown};
 
+use crate::phase::Phase;
 use crate::series::Series;
 use crate::series::taking::take_in_bounds;
 use crate::ticket::Ticket;
+use book::allocation::Taking;
+use book::select::Filter;
 use market::auction::Auction;
 use market::order::Order;
 use market::refusal::Refusal;
 use market::row::Row;
 use market::units::{Contracts, Millis};
-use matching::allocation::Taking;
 use matching::take::Taker;
 use order_table::departures::{Departure, write_departures};
-use order_table::select::Filter;
 use order_table::table::Table;
 use sharing::rule::SharingRule;
 
@@ -31,11 +32,7 @@ fn write_withdrawals(orders: &[Order], rows: &mut [Row]) -> usize
     ensures counted { result ≡ length (map withdrawn_row (filter (passes Filter.Outside) orders.now)) }
     ensures written { rows.new ≡ map withdrawn_row (filter (passes Filter.Outside) orders.now) ++ drop result rows.old }
 {
-    match write_departures(orders, Filter::Outside, Departure::Withdrawal, rows) {
-        Ok(count) => count,
-        // never: the rows fit
-        Err(_) => 0,
-    }
+    write_departures(orders, Filter::Outside, Departure::Withdrawal, rows).unwrap()
 }
 
 // The customer of an auction as a taker: the starter's order has a guarantee of two fifths.
@@ -96,16 +93,12 @@ impl<R: SharingRule> Series<R> {
         ensures answers { Answers (R.shared self.old.rule) (state self.old) (state self.new) rows.new (told_rows result) (runs.ticket (shown ticket.new)) (calls.finish (shown ticket.old) time rows.old) }
     {
         self.check_finish(ticket, time, rows)?;
-        match self.auction {
-            Some(auction) => {
-                let count = finish_auction(&self.rule, &mut self.table, auction, rows);
-                self.auction = None;
-                self.time = time;
-                ticket.discharged = true;
-                Ok(count)
-            }
-            // never: the ticket is that of the running auction
-            None => Err(Refusal::WrongPass),
-        }
+        // The ticket is of a running auction.
+        let auction = self.phase.auction().unwrap();
+        let count = finish_auction(&self.rule, &mut self.table, auction, rows);
+        self.phase = Phase::Trading { auction: None };
+        self.time = time;
+        ticket.discharged = true;
+        Ok(count)
     }
 }

@@ -8,6 +8,7 @@ ghost use Rattle.series.specs.State.{state};
 
 use crate::answer::Opened;
 use crate::pass::{PreOpeningPass, TradingPass};
+use crate::phase::Phase;
 use crate::series::Series;
 use discovery::opening_price::top;
 use market::refusal::Refusal;
@@ -30,11 +31,7 @@ fn match_orders<R: SharingRule>(
     ensures { Matched (R.shared rule.now) opening table.old table.new rows.old rows.new result }
 {
     match opening {
-        Some((price, _)) => match open_at(rule, table, Cents { value: price }, rows) {
-            Ok(count) => count,
-            // never: the orders, the rows and the price are in bounds
-            Err(_) => 0,
-        },
+        Some((price, _)) => open_at(rule, table, Cents { value: price }, rows).unwrap(),
         None => 0,
     }
 }
@@ -55,7 +52,7 @@ impl<R: SharingRule> Series<R> {
         match self.check_open(&pass, time, waived, opening, rows) {
             Ok(()) => {
                 let count = match_orders(&self.rule, &mut self.table, opening, rows);
-                self.trading = true;
+                self.phase = Phase::Trading { auction: None };
                 self.time = time;
                 let trading_pass = TradingPass {
                     series: self.number,

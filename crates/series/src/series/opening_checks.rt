@@ -12,7 +12,7 @@ use crate::pass::PreOpeningPass;
 use crate::series::Series;
 use crate::series::conditions::{DAY_END, are_few};
 use market::order::{Order, OrderKind};
-use market::refusal::Refusal;
+use market::refusal::{Refusal, refuse_if};
 use market::row::Row;
 use market::units::{Cents, Millis};
 use order_table::prices::is_out_of_range;
@@ -21,42 +21,28 @@ use sharing::rule::SharingRule;
 fn is_on_opening(kind: OrderKind) -> bool
     ensures { result ≡ on_opening kind }
 {
-    match kind {
-        OrderKind::Limit(_) => false,
-        OrderKind::MarketOnOpening => true,
-    }
+    kind == OrderKind::MarketOnOpening
 }
 
 // Whether a Market-on-Opening order stands.
 fn has_on_opening(orders: &[Order]) -> bool
     ensures { result ≡ nat_lt 0 (count_by (λ o. on_opening o.kind) orders.now) }
 {
-    for order in orders {
-        if is_on_opening(order.kind) {
-            return true;
-        }
-    }
-    false
+    orders.iter().any(|order| is_on_opening(order.kind))
 }
 
 // Whether a series would open too far from the close.
 fn opens_out_of_range(close: Cents, opens: Option<(u32, u32)>) -> bool
     ensures { result ≡ opens_out_of_range close.value opens }
 {
-    match opens {
-        Some((price, _)) => is_out_of_range(close, Cents { value: price }),
-        None => false,
-    }
+    opens.is_some_and(|(price, _)| is_out_of_range(close, Cents { value: price }))
 }
 
 impl<R: SharingRule> Series<R> {
     pub(super) fn check_top(&self, pass: &PreOpeningPass) -> Result<(), Refusal>
         ensures { refused_by result ≡ first_hit (question_checks (state self.now) (ask_top pass.now.series)) }
     {
-        if self.is_wrong_pass(pass.series, false) {
-            return Err(Refusal::WrongPass);
-        }
-        Ok(())
+        refuse_if(self.is_wrong_pass(pass.series, false), Refusal::WrongPass)
     }
 
     // Is told the opening price with its quantity.
@@ -71,21 +57,16 @@ impl<R: SharingRule> Series<R> {
         requires { opens ≡ top (state self.now).orders (state self.now).close }
         ensures { refused_by result ≡ first_hit (checks (state self.now) (calls.opening pass.now.series time waived rows.now)) }
     {
-        if self.is_wrong_pass(pass.series, false) {
-            return Err(Refusal::WrongPass);
-        }
-        if self.is_early_or_late(time, DAY_END) {
-            return Err(Refusal::BadTime);
-        }
-        if are_few(rows) {
-            return Err(Refusal::OutOfBounds);
-        }
-        if opens.is_none() && has_on_opening(self.table.live()) {
-            return Err(Refusal::NoOpeningPrice);
-        }
-        if !waived && opens_out_of_range(self.close.price(), opens) {
-            return Err(Refusal::FarFromClose);
-        }
-        Ok(())
+        refuse_if(self.is_wrong_pass(pass.series, false), Refusal::WrongPass)?;
+        refuse_if(self.is_early_or_late(time, DAY_END), Refusal::BadTime)?;
+        refuse_if(are_few(rows), Refusal::OutOfBounds)?;
+        refuse_if(
+            opens.is_none() && has_on_opening(self.table.live()),
+            Refusal::NoOpeningPrice,
+        )?;
+        refuse_if(
+            !waived && opens_out_of_range(self.close.price(), opens),
+            Refusal::FarFromClose,
+        )
     }
 }

@@ -5,16 +5,17 @@ ghost use Rattle.market.specs.declared.order.Account.TheVariants.{MarketMaker};
 ghost use Rattle.rules.specs.Calls.{new_order, without_old, withdrawn_rows};
 ghost use Rattle.rules.specs.Runs.{written};
 ghost use Rattle.order_table.specs.Changes.{admissible};
-ghost use Rattle.order_table.specs.Orders.{orders};
+ghost use Rattle.order_table.specs.Orders.{orders, next_number};
 
+use book::select::Filter;
 use market::order::{Account, Order, OrderKind, Role, Side};
 use market::row::Row;
 use market::units::{Cents, Contracts};
 use order_table::departures::Departure;
-use order_table::select::Filter;
 use order_table::table::Table;
 
-// An order of which nothing has traded.
+// An order of which nothing has traded. Its parameters are the fields that differ: a struct of them would be the order
+// once more.
 pub(super) fn new_order(
     number: u16,
     member: u16,
@@ -60,7 +61,7 @@ pub(super) fn maker_order(
 fn take_off(table: &mut Table, old: Option<Order>, rows: &mut [Row]) -> usize
     requires { 1 ≤ length rows.old }
     ensures records { orders table.new ≡ without_old old (orders table.old) }
-    ensures numbers { table.new.next ≡ table.old.next }
+    ensures numbers { next_number table.new ≡ next_number table.old }
     ensures count { result ≡ length (withdrawn_rows old) }
     ensures rows { rows.new ≡ written (withdrawn_rows old) rows.old }
 {
@@ -82,9 +83,9 @@ pub(super) fn replace_order(
     rows: &mut [Row],
 ) -> usize
     requires room { 1 ≤ length rows.old }
-    requires admissible { admissible new (without_old old (orders table.old)) table.old.next ≡ true }
+    requires admissible { admissible new (without_old old (orders table.old)) (next_number table.old) ≡ true }
     ensures records { orders table.new ≡ without_old old (orders table.old) ++ new ∷ [] }
-    ensures numbers { table.new.next ≡ table.old.next + 1 }
+    ensures numbers { next_number table.new ≡ next_number table.old + 1 }
     ensures count { result ≡ length (withdrawn_rows old) }
     ensures rows { rows.new ≡ written (withdrawn_rows old) rows.old }
 {

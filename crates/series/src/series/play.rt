@@ -1,4 +1,5 @@
-// The calls of a day, each made on a series as its data say.
+// The calls of a day, each made on a series as its data say. That the rows lent are unused stands at each call: only the
+// call tells how many there are, and a struct of a call with its rows would be made for this one use.
 ghost use Rattle.std.specs.Prelude.{◌≡◌, []};
 ghost use Rattle.rules.specs.Runs.{lent};
 ghost use Rattle.series.specs.Answers.{Answers};
@@ -6,10 +7,9 @@ ghost use Rattle.series.specs.Days.{answer_of, handed_of, call_of, unused};
 ghost use Rattle.series.specs.State.{state};
 
 use crate::day::{
-    AwayCall, BetterCall, ClockCall, DayCall, EnterCall, FinishCall, HandedBack, ImproveCall,
-    OpenCall, Outcome, PlaceCall, StartCall, WithdrawCall,
+    Accepted, AwayCall, BetterCall, ClockCall, DayCall, EnterCall, FinishCall, HandedBack,
+    ImproveCall, OpenCall, Outcome, PlaceCall, StartCall, WithdrawCall,
 };
-use crate::outcome::{of_entry, of_nothing, of_open, of_rows, of_start};
 use crate::pass::{PreOpeningPass, TradingPass};
 use crate::series::Series;
 use crate::ticket::Ticket;
@@ -32,8 +32,8 @@ impl<R: SharingRule> Series<R> {
             call.size,
         );
         Outcome {
-            answer: of_entry(result),
-            handed: HandedBack::Nothing,
+            answer: result.map(Accepted::from),
+            handed: None,
         }
     }
 
@@ -44,8 +44,8 @@ impl<R: SharingRule> Series<R> {
     {
         let result = self.withdraw(call.time, call.member, call.order, rows);
         Outcome {
-            answer: of_rows(result),
-            handed: HandedBack::Nothing,
+            answer: result.map(Accepted::from),
+            handed: None,
         }
     }
 
@@ -55,8 +55,8 @@ impl<R: SharingRule> Series<R> {
     {
         let result = self.away(call.time, call.market, call.bid, call.offer);
         Outcome {
-            answer: of_nothing(result),
-            handed: HandedBack::Nothing,
+            answer: result.map(Accepted::from),
+            handed: None,
         }
     }
 
@@ -66,7 +66,16 @@ impl<R: SharingRule> Series<R> {
         ensures answers { Answers (R.shared self.old.rule) (state self.old) (state self.new) rows.new (answer_of result.answer) (handed_of result.handed) (call_of (DayCall.Open call)) }
     {
         let pass = PreOpeningPass { series: call.pass };
-        of_open(self.open(pass, call.time, call.waived, rows))
+        match self.open(pass, call.time, call.waived, rows) {
+            Ok((pass, opened)) => Outcome {
+                answer: Ok(opened.into()),
+                handed: Some(HandedBack::TradingPass(pass.series)),
+            },
+            Err((pass, refusal)) => Outcome {
+                answer: Err(refusal),
+                handed: Some(HandedBack::PreOpeningPass(pass.series)),
+            },
+        }
     }
 
     fn play_enter(&mut self, call: EnterCall, rows: &mut [Row]) -> Outcome
@@ -86,8 +95,8 @@ impl<R: SharingRule> Series<R> {
             rows,
         );
         Outcome {
-            answer: of_entry(result),
-            handed: HandedBack::Nothing,
+            answer: result.map(Accepted::from),
+            handed: None,
         }
     }
 
@@ -98,8 +107,8 @@ impl<R: SharingRule> Series<R> {
     {
         let result = self.clock(call.time, rows);
         Outcome {
-            answer: of_rows(result),
-            handed: HandedBack::Nothing,
+            answer: result.map(Accepted::from),
+            handed: None,
         }
     }
 
@@ -108,14 +117,24 @@ impl<R: SharingRule> Series<R> {
         ensures answers { Answers (R.shared self.old.rule) (state self.old) (state self.new) [] (answer_of result.answer) (handed_of result.handed) (call_of (DayCall.Start call)) }
     {
         let pass = TradingPass { series: call.pass };
-        of_start(self.start(
+        let result = self.start(
             &pass,
             call.time,
             call.member,
             call.side,
             call.price,
             call.size,
-        ))
+        );
+        match result {
+            Ok((ticket, started)) => Outcome {
+                answer: Ok(started.into()),
+                handed: Some(HandedBack::Ticket(ticket.note())),
+            },
+            Err(refusal) => Outcome {
+                answer: Err(refusal),
+                handed: None,
+            },
+        }
     }
 
     fn play_improve(&mut self, call: ImproveCall, rows: &mut [Row]) -> Outcome
@@ -134,8 +153,8 @@ impl<R: SharingRule> Series<R> {
             rows,
         );
         Outcome {
-            answer: of_entry(result),
-            handed: HandedBack::Nothing,
+            answer: result.map(Accepted::from),
+            handed: None,
         }
     }
 
@@ -148,8 +167,8 @@ impl<R: SharingRule> Series<R> {
         let ticket = Ticket::from_note(call.ticket);
         let result = self.better(&pass, &ticket, call.time, call.price, rows);
         Outcome {
-            answer: of_entry(result),
-            handed: HandedBack::Ticket(ticket.note()),
+            answer: result.map(Accepted::from),
+            handed: Some(HandedBack::Ticket(ticket.note())),
         }
     }
 
@@ -161,12 +180,12 @@ impl<R: SharingRule> Series<R> {
         let mut ticket = Ticket::from_note(call.ticket);
         let result = self.finish(&mut ticket, call.time, rows);
         Outcome {
-            answer: of_rows(result),
-            handed: HandedBack::Ticket(ticket.note()),
+            answer: result.map(Accepted::from),
+            handed: Some(HandedBack::Ticket(ticket.note())),
         }
     }
 
-    // Makes a call in the memory that it is lent.
+    // Makes a call in the memory that it is lent. A match: a day is data, and the journal shows each call.
     pub(super) fn play(&mut self, call: DayCall, rows: &mut [Row]) -> Outcome
         requires { rows.old ≡ lent (call_of call) }
         ensures rule { self.new.rule ≡ self.old.rule }

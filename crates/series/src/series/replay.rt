@@ -12,7 +12,7 @@ use sharing::rule::SharingRule;
 use std::alloc::{AllocError, Global};
 
 impl DayCall {
-    // How many rows the call is lent, before the limit.
+    // How many rows the call is lent, before the limit. A match: three cases are lent none, and have no field for it.
     fn lent(self) -> usize
         ensures { result ≡ lent_to self }
     {

@@ -1,13 +1,12 @@
 // Taking from the table of a series.
 ghost use Rattle.std.specs.Prelude.{◌≤◌, length, count_by};
-ghost use Rattle.order_table.specs.Filters.{passes};
+ghost use Rattle.book.specs.Filters.{passes};
 ghost use Rattle.order_table.specs.Orders.{orders};
 ghost use Rattle.matching.specs.Taking.{Took};
 
+use book::select::Filter;
 use market::row::Row;
-use market::units::Contracts;
 use matching::take::{Taken, Taker, take};
-use order_table::select::Filter;
 use order_table::table::Table;
 use sharing::rule::SharingRule;
 
@@ -26,12 +25,5 @@ pub(super) fn take_in_bounds<R: SharingRule>(
     ensures took { Took (R.shared rule.now) (passes filter) taker table.old table.new rows.old rows.new result }
     ensures within { result.traded.count ≤ taker.taking.amount.count }
 {
-    match take(rule, table, filter, taker, rows) {
-        Ok(taken) => taken,
-        // never: all is in bounds
-        Err(_) => Taken {
-            rows: 0,
-            traded: Contracts::NONE,
-        },
-    }
+    take(rule, table, filter, taker, rows).unwrap()
 }

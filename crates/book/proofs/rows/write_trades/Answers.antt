@@ -1,46 +1,31 @@
-use Rattle.std.proofs.Common.{ℕ, ◌<◌, length, get_or, ap, ◌∙◌, arith, rules}
-use Rattle.std.proofs.ByRecursion.{All-get_or}
-use Rattle.market.specs.Words.{trade}
-use Rattle.market.specs.declared.order.Order.{Order}
-use Rattle.book.specs.Places.{at}
-use Rattle.book.proofs.Sorting.{no_rank}
-use Rattle.book.proofs.Trades.{no_contracts, trading_one, trading_no, trading_all}
+use Rattle.std.proofs.Common.{◌≡◌, ◌++◌, length, map, filter, sym, ap, ◌∙◌, ap₂, rules, tests}
+use Rattle.std.specs.List.{zip}
+use Rattle.std.proofs.lemmas.List.{length-map, take-append-drop}
+use Rattle.std.proofs.lemmas.Iterator.{YieldsList-from_slice, YieldsList-from_zip}
+use Rattle.std.proofs.lemmas.Iterator.Consumers.{YieldsList-at, YieldsList-from_filter, YieldsList-end}
+use Rattle.book.proofs.Trades.{row_of, rows_of, trades}
 use Rattle.book.proofs.rows.write_trades.Goals as goal
-use Rattle.book.proofs.rows.write_trades.Goals.{then-trades, else-trades}
 
-pub offset_bounds-orders-r : goal.offset_bounds-orders-r
-offset_bounds-orders-r c =
-    let inside = All-get_or (λ r. r.place < length c.args.orders.now) c.args.ranked.now c.loop-i.i no_rank (omega arith) c.requires.places in
-    search rules
+-- the loop ran through the ranked orders that trade
+all_yielded : (c : goal.In-None) → map (λ p. (p.0.now, p.1.now)) c.loop-r.yielded ≡ filter trades (zip c.args.ranked.now c.args.shares.now)
+all_yielded c =
+    let l = c.loop-r in
+    let pairs = YieldsList-from_zip (YieldsList-at c.zip.ensures.first (YieldsList-from_slice c.args.ranked.now cc)) (YieldsList-from_slice {s = c.zip.result.b} c.args.shares.now cc) in
+    (YieldsList-end
+    (YieldsList-at c.into_iter-r-iterator.ensures.into_iter_gives
+    (YieldsList-from_filter _ trades (YieldsList-at c.filter-r-items.ensures.source pairs) c.filter-r-items.ensures.closure (λ x r q k. search (rules, tests))))
+    l.yielded l.r-iterator l.yielded_by c.next.result c.next.new.self c.in-None.is c.next.ensures.steps).0
 
-pub bounds-orders-r : goal.bounds-orders-r
-bounds-orders-r c =
-    let inside = All-get_or (λ r. r.place < length c.args.orders.now) c.args.ranked.now c.loop-i.i no_rank (omega arith) c.requires.places in
-    search rules
-
-pub loop-i-preserved : goal.loop-i-preserved
-loop-i-preserved c =
+pub returns-clause-counted : goal.returns-clause-counted
+returns-clause-counted c =
     let a = c.args in
-    let l = c.loop-i in
-    let o : Order = at a.orders.now (get_or a.ranked.now l.i no_rank) in
-    let n : ℕ = (get_or a.shares.now l.i no_contracts).count in
-    let behind = l.invariant.behind in
-    let long = l.invariant.long in
-    elim c.if-trades.branch [
-      | then-trades w ↦
-          rw (w.rows-is, w.count-is)
-          (trading_one a.side a.taker a.orders.now a.ranked.now a.shares.now c.requires.even a.rows.now l.rows l.count l.i l.invariant c.loop-i-test.true
-          w.trade.result (w.trade.ensures ∙ ap (λ (p : ℕ). trade a.side a.taker o.number p n) w.price.ensures) w.if-trades.true (omega arith))
-      | else-trades w ↦
-          rw (w.rows-is, w.count-is)
-          (trading_no a.side a.taker a.orders.now a.ranked.now a.shares.now c.requires.even a.rows.now l.rows l.count l.i l.invariant c.loop-i-test.true w.if-trades.false)
-    ]
+    let l = c.loop-r in
+    let rows = ap (map (row_of a.side a.taker a.orders.now)) (all_yielded c) ∙ rows_of a.side a.taker a.orders.now a.ranked.now a.shares.now in
+    l.invariant.2 ∙ sym (length-map l.yielded (λ p. (p.0.now, p.1.now))) ∙ sym (length-map (map (λ p. (p.0.now, p.1.now)) l.yielded) (row_of a.side a.taker a.orders.now)) ∙ ap length rows
 
-pub returns : goal.returns
-returns c =
+pub returns-clause-written : goal.returns-clause-written
+returns-clause-written c =
     let a = c.args in
-    let l = c.loop-i in
-    let behind = l.invariant.behind in
-    let long = l.invariant.long in
-    let d = trading_all a.side a.taker a.orders.now a.ranked.now a.shares.now c.requires.even a.rows.now l.rows l.count l.i l.invariant c.loop-i-test.false (omega arith) in
-    record { counted = d.0; written = d.1; few = omega arith }
+    let l = c.loop-r in
+    let rows = ap (map (row_of a.side a.taker a.orders.now)) (all_yielded c) ∙ rows_of a.side a.taker a.orders.now a.ranked.now a.shares.now in
+    sym (take-append-drop l.count l.rows) ∙ ap₂ ◌++◌ (l.invariant.0 ∙ rows) l.invariant.1

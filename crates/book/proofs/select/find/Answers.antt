@@ -1,20 +1,12 @@
-use Rattle.std.proofs.Common.{sym, ◌∙◌}
-use Rattle.std.proofs.lemmas.List.{at_drop_all, at_drop_more}
-use Rattle.std.proofs.lemmas.Bool.{cond-true, cond-false}
-use Rattle.rules.specs.Series.{found}
+use Rattle.std.proofs.Common.{◌∙◌, rules, tests}
+use Rattle.std.proofs.lemmas.Iterator.{YieldsList-from_slice}
+use Rattle.std.proofs.lemmas.Iterator.Search.{find_from_yields_List}
 use Rattle.book.specs.Filters.{passes}
-use Rattle.book.specs.Places.{no_order}
+use Rattle.book.proofs.Walks.{found_is}
 use Rattle.book.proofs.select.find.Goals as goal
 
-pub returns-then-passes : goal.returns-then-passes
-returns-then-passes c =
-    let p = passes c.args.filter in
-    sym (sym c.loop-order.invariant ∙ at_drop_more (found p) c.args.orders.now c.loop-order.order-index no_order c.loop-order-test.true ∙ cond-true _ _ _ (sym c.if-passes.ensures))
-
-pub loop-order-preserved : goal.loop-order-preserved
-loop-order-preserved c =
-    let p = passes c.args.filter in
-    sym (at_drop_more (found p) c.args.orders.now c.loop-order.order-index no_order c.loop-order-test.true ∙ cond-false _ _ _ (sym c.if-passes.ensures)) ∙ c.loop-order.invariant
-
 pub returns : goal.returns
-returns c = sym (sym c.loop-order.invariant ∙ at_drop_all (found (passes c.args.filter)) c.args.orders.now c.loop-order.order-index c.loop-order-test.false)
+returns c =
+    c.copied.ensures
+    ∙ find_from_yields_List (passes c.args.filter) _ _ c.find.result c.find.ensures.ran (YieldsList-from_slice c.args.orders.now cc) (λ x b q k. search (rules, tests))
+    ∙ found_is (passes c.args.filter) c.args.orders.now

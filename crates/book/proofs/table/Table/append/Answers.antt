@@ -9,20 +9,6 @@ use Rattle.book.proofs.table.Table.append.Goals as goal
 room : (records : List Order) (count next : ℕ) (o : Order) → count ≤ length records → Live (take count records ++ (o ∷ [])) next → count + 1 ≤ 161
 room records count next o le l = let few = l.few in omega (arith, length-append (take count records) (o ∷ []), length-take-le count records le)
 
-pub offset_bounds-records-self : goal.offset_bounds-records-self
-offset_bounds-records-self c =
-    let t = c.args.self.now in
-    let few = t.few in
-    let long = t.long in
-    omega (arith, room t.records t.count (t.next + 1) c.args.order (omega arith) c.requires.live)
-
-pub bounds-records-self : goal.bounds-records-self
-bounds-records-self c =
-    let t = c.args.self.now in
-    let few = t.few in
-    let long = t.long in
-    omega (arith, room t.records t.count (t.next + 1) c.args.order (omega arith) c.requires.live)
-
 pub invariant_of-self : goal.invariant_of-self
 invariant_of-self c =
     let t = c.args.self.now in
@@ -44,12 +30,3 @@ invariant_of-self c =
       customer = grown.customer;
       numbers = grown.numbers;
     }
-
-pub returns : goal.returns
-returns c =
-    let t = c.args.self.now in
-    let few = t.few in
-    let long = t.long in
-    let one = room t.records t.count (t.next + 1) c.args.order (omega arith) c.requires.live in
-    let unused = c.requires.unused in
-    record { records = take_more_set t.records t.count c.args.order (omega arith); numbers = omega arith }

@@ -1,4 +1,4 @@
-use Rattle.std.proofs.Common.{◌≡◌, ◌-◌, true, List, ◌++◌, length, take, drop, sym, ap, ◌∙◌, subst, arith, length-append, length-drop, rules}
+use Rattle.std.proofs.Common.{◌≡◌, ◌-◌, true, List, ◌++◌, length, take, drop, sym, ap, ◌∙◌, subst, arith, length-append, length-drop}
 use Rattle.std.specs.List.{AllByRecursion}
 use Rattle.std.proofs.lemmas.List.{take_at}
 use Rattle.std.proofs.ByRecursion.{All-append, All-drop}
@@ -31,8 +31,3 @@ invariant_of-self c =
       customer = now.customer;
       numbers = now.numbers;
     }
-
-pub returns : goal.returns
-returns c =
-    let live = c.args.live.now in
-    record { records = front live c.copy_from_slice.new.self (drop (length live - 0) c.args.self.now.records) c.copy_from_slice.ensures.after; numbers = search rules }

@@ -1,12 +1,15 @@
 use Rattle.std.proofs.Common.{◌≡◌, ◌<◌, sym, arith}
-use Rattle.order_table.specs.Orders.{orders}
+use Rattle.std.proofs.lemmas.Bool.{and_parts}
+use Rattle.book.specs.Records.{balanced}
+use Rattle.order_table.specs.Orders.{orders, next_number}
+use Rattle.order_table.specs.Records.{priced}
 use Rattle.order_table.proofs.Records.{live_push, table_live}
 use Rattle.order_table.proofs.table.Table.append.Goals as goal
 
-pub push-requires : goal.push-requires
-push-requires c =
+pub append-requires-clause-live : goal.append-requires-clause-live
+append-requires-clause-live c =
     let t = c.args.self.now in
     let o = c.args.order in
-    let e : o.number ≡ t.next = omega arith in
-    let lt : t.next < 65536 = omega arith in
-    record { unused = e; live = live_push (orders t) t.next (table_live t) o e lt (sym c.if-not-is_sound.ensures) (sym c.if-not-has_room.ensures) }
+    let e : o.number ≡ next_number t = omega arith in
+    let lt : next_number t < 65536 = omega arith in
+    live_push (orders t) (next_number t) (table_live t) o e lt (and_parts (balanced o) (priced o) (sym c.if-not-is_sound.ensures)).0 (sym c.if-not-has_room.ensures)

@@ -1,16 +1,16 @@
-use Rattle.std.proofs.Common.{◌≡◌, ℕ, ◌-◌, List, take, filter, sym, ap, ◌∙◌, subst}
-use native.Mathlib.Nat.{sub-zero}
+use Rattle.std.proofs.Common.{◌≡◌, true, filter, ap, ◌∙◌}
+use Rattle.std.specs.List.{list_all}
+use Rattle.std.proofs.ByRecursion.{all_kept_by}
 use Rattle.market.specs.declared.order.Order.{Order}
-use Rattle.order_table.specs.Filters.{passes}
-use Rattle.order_table.specs.Records.{Live}
-use Rattle.order_table.proofs.Records.{live_kept}
+use Rattle.book.specs.Filters.{passes}
+use Rattle.book.proofs.Records.{all_passes}
+use Rattle.order_table.specs.Orders.{orders}
+use Rattle.order_table.specs.Records.{priced}
+use Rattle.order_table.proofs.Records.{table_priced}
 use Rattle.order_table.proofs.table.Table.keep.Goals as goal
 
-pub replace-requires : goal.replace-requires
-replace-requires c =
-    let n = c.pick-n.result in
-    let out = c.pick-n.new.out in
-    let os = c.live.result.now in
-    let next = c.args.self.now.next in
-    let e : take (n - 0) out ≡ filter (passes c.args.filter) os = ap (λ (k : ℕ). take k out) (sub-zero n) ∙ c.pick-n.ensures.front in
-    subst (λ (xs : List Order). Live xs next) (sym e) (live_kept (passes c.args.filter) os next c.live.ensures.kept)
+pub invariant_of-self : goal.invariant_of-self
+invariant_of-self c =
+    let t = c.args.self.now in
+    let p = passes c.args.filter in
+    record { prices = ap (list_all priced) c.keep.ensures.records ∙ all_passes priced (filter p (orders t)) (all_kept_by p (λ (o : Order). priced o ≡ true) (orders t) (table_priced t)) }

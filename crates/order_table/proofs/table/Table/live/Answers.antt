@@ -1,12 +1,9 @@
-use Rattle.std.proofs.Common.{◌≡◌, ℕ, ◌-◌, List, take, sym, ap, subst}
-use native.Mathlib.Nat.{sub-zero}
+use Rattle.std.proofs.Common.{◌≡◌, true, sym, subst}
+use Rattle.std.specs.List.{AllByRecursion}
 use Rattle.market.specs.declared.order.Order.{Order}
-use Rattle.order_table.specs.Records.{Live}
-use Rattle.order_table.proofs.Records.{table_live}
+use Rattle.order_table.specs.Records.{priced}
+use Rattle.order_table.proofs.Records.{table_priced}
 use Rattle.order_table.proofs.table.Table.live.Goals as goal
 
-pub returns : goal.returns
-returns c =
-    let t = c.args.self.now in
-    let e : take (t.count - 0) t.records ≡ take t.count t.records = ap (λ (k : ℕ). take k t.records) (sub-zero t.count) in
-    record { is = e; kept = subst (λ (os : List Order). Live os t.next) (sym e) (table_live t) }
+pub returns-clause-priced : goal.returns-clause-priced
+returns-clause-priced c = subst (AllByRecursion (λ (o : Order). priced o ≡ true)) (sym c.live.ensures.is) (table_priced c.args.self.now)

@@ -1,20 +1,35 @@
-use Rattle.std.proofs.Common.{◌≡◌, ℕ, ◌-◌, List, take, sym, ap, ◌∙◌, subst}
+use Rattle.std.proofs.Common.{◌≡◌, ℕ, ◌-◌, List, take, sym, ap, ◌∙◌, subst₂}
 use native.Mathlib.Nat.{sub-zero}
+use Rattle.std.specs.List.{list_all}
 use Rattle.market.specs.declared.order.Order.{Order}
 use Rattle.sharing.specs.Asked.{counts}
-use Rattle.order_table.specs.Changes.{settled}
-use Rattle.order_table.specs.Filters.{passes}
-use Rattle.order_table.specs.Records.{Live}
-use Rattle.order_table.proofs.Records.{live_settled}
+use Rattle.book.specs.Filters.{passes}
+use Rattle.book.specs.Records.{Live}
+use Rattle.book.specs.Settling.{settled_up_to}
+use Rattle.book.proofs.Records.{all_passes, live_settled}
+use Rattle.order_table.specs.Orders.{orders, next_number}
+use Rattle.order_table.specs.Records.{priced}
+use Rattle.order_table.proofs.Records.{priced_settled, table_live, table_priced}
 use Rattle.order_table.proofs.table.Table.settle.Goals as goal
 
 pub replace-requires : goal.replace-requires
 replace-requires c =
+    let t = c.args.self.now in
     let n = c.settle-n.result in
     let out = c.settle-n.new.out in
-    let os = c.live.result.now in
-    let next = c.args.self.now.next in
     let p = passes c.args.filter in
     let fills = counts c.args.fills.now in
-    let e : take (n - 0) out ≡ settled p os fills = ap (λ (k : ℕ). take k out) (sub-zero n) ∙ c.settle-n.ensures.front in
-    subst (λ (xs : List Order). Live xs next) (sym e) (live_settled p os next fills c.live.ensures.kept)
+    let e : take (n - 0) out ≡ settled_up_to p (orders t) fills =
+    ap (λ (k : ℕ). take k out) (sub-zero n) ∙ c.settle-n.ensures.front ∙ ap (λ (os : List Order). settled_up_to p os fills) c.live.ensures.is in
+    record { live = subst₂ Live (sym e) (sym c.next-next.ensures) (live_settled p (orders t) (next_number t) fills (table_live t)) }
+
+pub invariant_of-self : goal.invariant_of-self
+invariant_of-self c =
+    let t = c.args.self.now in
+    let n = c.settle-n.result in
+    let out = c.settle-n.new.out in
+    let p = passes c.args.filter in
+    let fills = counts c.args.fills.now in
+    let e : take (n - 0) out ≡ settled_up_to p (orders t) fills =
+    ap (λ (k : ℕ). take k out) (sub-zero n) ∙ c.settle-n.ensures.front ∙ ap (λ (os : List Order). settled_up_to p os fills) c.live.ensures.is in
+    record { prices = ap (list_all priced) (c.replace.ensures.records ∙ e) ∙ all_passes priced (settled_up_to p (orders t) fills) (priced_settled p (orders t) fills (table_priced t)) }

@@ -8,7 +8,7 @@ use Rattle.rules.specs.Series.{bad_quote}
 use Rattle.rules.proofs.Plain.{quote_fine}
 use Rattle.rules.proofs.Sound.{Spanned}
 use Rattle.rules.proofs.Trading.{away_below}
-use Rattle.order_table.proofs.Records.{pass_all}
+use Rattle.book.proofs.Records.{pass_all}
 use Rattle.series.specs.Quotes.{quote_in_span, quotes_in_span}
 use Rattle.series.proofs.away.AwayQuotes.best.Goals as goal
 

@@ -1,7 +1,7 @@
 use Rattle.std.proofs.Common.{◌≡◌, ◌-◌, true, set}
 use Rattle.std.proofs.ByRecursion.{All-set}
 use Rattle.market.specs.declared.quote.Quote.{Quote}
-use Rattle.order_table.proofs.Records.{pass_all, all_passes}
+use Rattle.book.proofs.Records.{pass_all, all_passes}
 use Rattle.series.specs.Quotes.{quote_in_span}
 use Rattle.series.proofs.away.AwayQuotes.replace.Goals as goal
 

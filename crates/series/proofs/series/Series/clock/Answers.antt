@@ -10,8 +10,9 @@ use Rattle.rules.specs.Calls.{checks, clock, exposure_row}
 use Rattle.rules.specs.Runs.{accepted, nothing}
 use Rattle.rules.specs.Series.{due}
 use Rattle.order_table.specs.Orders.{orders}
-use Rattle.order_table.specs.Records.{Live}
+use Rattle.book.specs.Records.{Live}
 use Rattle.sharing.specs.Sharing.{Sharing}
+use Rattle.series.specs.Phases.{running}
 use Rattle.series.specs.State.{state}
 use Rattle.series.proofs.Adding.{timely}
 use Rattle.series.proofs.Answering.{all_clear, accepts, changed, changed_is, written_is}
@@ -36,7 +37,7 @@ returns-in_err-count g c =
     let rows = exposure_rows a.time.count c.live-live.result.now in
     let w = c.in_err-count.ensures.answer_is in
     let short = hit 7 (ltb (length a.rows.now) (length rows)) (refusal_number c.in_err-count.field-0.0) w in
-    absurd (omega (arith, ltb-true (length a.rows.now) (length rows) short, ltb-false (length a.rows.now) 192 h.1.0, few a.time.count c.live-live.result.now a.self.now.table.next c.live-live.ensures.kept))
+    absurd (omega (arith, ltb-true (length a.rows.now) (length rows) short, ltb-false (length a.rows.now) 192 h.1.0, few a.time.count c.live-live.result.now a.self.now.table.records.next c.live-live.ensures.kept))
 
 pub invariant_of-self : goal.invariant_of-self
 invariant_of-self g c =
@@ -44,8 +45,7 @@ invariant_of-self g c =
     let s = a.self.now in
     let h = all_clear (checks (state s) (clock a.time a.rows.now)) c.in_ok-check_clock.ensures in record {
       day = timely 86400000 a.time.count (state s) h.0;
-      held = held_same s.auction (orders c.keep.new.self) (filter (λ o. not (due a.time.count o.exposed)) (orders s.table)) c.keep.ensures.records (held_lasting s.auction (orders s.table) a.time.count s.held);
-      quiet = s.quiet;
+      held = held_same (running s.phase) (orders c.keep.new.self) (filter (λ o. not (due a.time.count o.exposed)) (orders s.table)) c.keep.ensures.records (held_lasting (running s.phase) (orders s.table) a.time.count s.held);
     }
 
 pub returns : goal.returns
@@ -58,11 +58,11 @@ returns g c =
     let put = c.in_ok-count.ensures.rows_are in
     let rows = exposure_rows a.time.count (orders s.table) in
     let w = written_is (exposure_rows a.time.count c.live-live.result.now) rows a.rows.now c.write_departures.new.rows n (ap (exposure_rows a.time.count) c.live-live.ensures.is) put.0 put.1 in
-    let next : c.keep.new.self.next ≡ s.table.next + 0 = omega (arith, c.keep.ensures.numbers) in
+    let next : c.keep.new.self.records.next ≡ s.table.records.next + 0 = omega (arith, c.keep.ensures.numbers) in
     record {
       rule = refl {a = s.rule};
       answers =
-          accepts rule st (clock a.time a.rows.now) (changed st a.time.count c.keep.new.self.next (orders c.keep.new.self) st.auction) c.write_departures.new.rows (accepted n [] None) nothing c.in_ok-check_clock.ensures
-          (changed_is st a.time.count 0 c.keep.new.self.next (orders c.keep.new.self) (filter (λ o. not (due a.time.count o.exposed)) (orders s.table)) st.auction next c.keep.ensures.records)
+          accepts rule st (clock a.time a.rows.now) (changed st a.time.count c.keep.new.self.records.next (orders c.keep.new.self) st.auction) c.write_departures.new.rows (accepted n [] None) nothing c.in_ok-check_clock.ensures
+          (changed_is st a.time.count 0 c.keep.new.self.records.next (orders c.keep.new.self) (filter (λ o. not (due a.time.count o.exposed)) (orders s.table)) st.auction next c.keep.ensures.records)
           (ap (λ (k : ℕ). accepted k [] None) w.0) w.1 refl;
     }

@@ -13,7 +13,8 @@ use Rattle.rules.specs.Prices.{cents}
 use Rattle.rules.specs.Series.{State}
 use Rattle.rules.proofs.Plain.{grid_fine, size_fine}
 use Rattle.order_table.specs.Orders.{orders}
-use Rattle.order_table.specs.Records.{booked}
+use Rattle.book.specs.Records.{booked}
+use Rattle.series.specs.Phases.{running}
 use Rattle.series.specs.State.{state}
 use Rattle.series.proofs.Answering.{all_clear}
 use Rattle.series.proofs.Entering.{enterable, held_entered, enters}
@@ -67,8 +68,7 @@ invariant_of-self g c =
     let e = c.enter_order-count in
     record {
       day = day;
-      held = held_entered s.auction rule (orders s.table) (orders e.new.table) o (cents c.best-best.result) (a.time.count + 3000) c.next-number.result a.member a.side a.account a.price a.size c.new_order-order.ensures s.held e.ensures.left;
-      quiet = s.quiet;
+      held = held_entered (running s.phase) rule (orders s.table) (orders e.new.table) o (cents c.best-best.result) (a.time.count + 3000) c.next-number.result a.member a.side a.account a.price a.size c.new_order-order.ensures s.held e.ensures.left;
     }
 
 pub returns : goal.returns

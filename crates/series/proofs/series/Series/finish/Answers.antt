@@ -1,5 +1,5 @@
-use Rattle.std.proofs.Common.{◌≡◌, ◌≤◌, true, ltb, List, length, None, Option, refl, subst}
-use Rattle.std.proofs.lemmas.Bool.{or_parts, or_right, ltb-false}
+use Rattle.std.proofs.Common.{◌≡◌, ◌≤◌, true, ltb, List, length, None, Option, subst, sym, ◌∙◌}
+use Rattle.std.proofs.lemmas.Bool.{or_parts, ltb-false}
 use Rattle.market.specs.Refusals.{first_hit}
 use Rattle.market.specs.declared.auction.Auction.{Auction}
 use Rattle.market.specs.declared.row.Row.{Row}
@@ -12,7 +12,7 @@ use Rattle.series.specs.Held.{held_well}
 use Rattle.series.specs.State.{state}
 use Rattle.series.specs.Tickets.{shown}
 use Rattle.series.proofs.Answering.{all_clear}
-use Rattle.series.proofs.Finishing.{auction_sized, contra_few, others_few, held_finished, finishes}
+use Rattle.series.proofs.Finishing.{auction_sized, contra_few, others_few, held_finished}
 use Rattle.series.proofs.series.Series.finish.Goals as goal
 
 -- what an accepted finish may count on
@@ -31,14 +31,14 @@ accepted st k t rows e =
 pub finish_auction-count-requires : goal.finish_auction-count-requires
 finish_auction-count-requires g c =
     let s = c.args.self.now in
-    let a = c.in-Some.auction in
+    let a = c.unwrap-auction.result in
     let os = orders s.table in
     let live = table_live s.table in
-    let held = subst (λ (x : Option Auction). held_well x os ≡ true) c.in-Some.is s.held in
+    let held = subst (λ (x : Option Auction). held_well x os ≡ true) (sym c.auction.ensures ∙ c.unwrap-auction.ensures) s.held in
     record {
-      claims = contra_few a os s.table.next live held;
-      others = others_few a os s.table.next live held;
-      size = auction_sized a os s.table.next live held;
+      claims = contra_few a os s.table.records.next live held;
+      others = others_few a os s.table.records.next live held;
+      size = auction_sized a os s.table.records.next live held;
       room = (accepted (state s) (shown c.args.ticket.now) c.args.time c.args.rows.now c.in_ok-check_finish.ensures).room;
     }
 
@@ -49,18 +49,5 @@ invariant_of-self g c =
     let k = accepted (state s) (shown c.args.ticket.now) c.args.time c.args.rows.now c.in_ok-check_finish.ensures in
     record {
       day = k.timely;
-      held = held_finished (g.R.SharingRule.shared s.rule) (orders s.table) (orders f.new.table) c.in-Some.auction f.ensures.left;
-      quiet = or_right s.trading true refl;
-    }
-
-pub returns-in-Some : goal.returns-in-Some
-returns-in-Some g c =
-    let a = c.args in
-    let s = a.self.now in
-    let f = c.finish_auction-count in
-    record {
-      rule = refl {a = s.rule};
-      answers =
-          finishes (g.R.SharingRule.shared s.rule) (state s) (shown a.ticket.now) a.time a.rows.now f.new.rows s.table f.new.table c.in-Some.auction f.result
-          c.in_ok-check_finish.ensures c.in-Some.is refl refl f.ensures;
+      held = held_finished (g.R.SharingRule.shared s.rule) (orders s.table) (orders f.new.table) c.unwrap-auction.result f.ensures.left;
     }

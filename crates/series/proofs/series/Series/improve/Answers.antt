@@ -16,8 +16,9 @@ use Rattle.rules.specs.Calls.{improve, checks, new_order, without_old}
 use Rattle.rules.specs.Series.{replaced}
 use Rattle.order_table.specs.Changes.{admissible}
 use Rattle.order_table.specs.Orders.{orders}
-use Rattle.order_table.specs.Records.{auction_contra}
+use Rattle.book.specs.Records.{auction_contra}
 use Rattle.series.specs.Held.{held_well}
+use Rattle.series.specs.Phases.{running}
 use Rattle.series.specs.State.{state}
 use Rattle.series.specs.declared.series.Series.{Series}
 use Rattle.series.proofs.Adding.{admits, timely, sized, price_bounded}
@@ -39,28 +40,28 @@ module _ {R : Type 0} (s : Series R) (pass : ℕ) (t : Millis) (m : ℕ) (p : Ce
   has_rows : 1 ≤ length rows
   has_rows = omega (arith, ltb-false (length rows) 192 passed.1.1.1.1.1.1.0)
 
-  has_number : s.table.next < 65536
-  has_number = omega (arith, ltb-false 65536 (s.table.next + 1) passed.1.1.1.1.1.1.1.1.0)
+  has_number : s.table.records.next < 65536
+  has_number = omega (arith, ltb-false 65536 (s.table.records.next + 1) passed.1.1.1.1.1.1.1.1.0)
 
-  joins : (n : ℕ) (side : Side) → n ≡ s.table.next → admissible (new_order n m side MarketMaker (limit_at p.value) size.count Competing) stay s.table.next ≡ true
+  joins : (n : ℕ) (side : Side) → n ≡ s.table.records.next → admissible (new_order n m side MarketMaker (limit_at p.value) size.count Competing) stay s.table.records.next ≡ true
   joins n side e =
-      admits stay n s.table.next m side MarketMaker (limit_at p.value) size.count Competing e
+      admits stay n s.table.records.next m side MarketMaker (limit_at p.value) size.count Competing e
       (sized size.count (not-false (size_in_span size.count) passed.1.1.1.1.1.0)).1
       (price_bounded p.value (not-false (price_in_span p.value) passed.1.1.1.1.0))
-      (lt-ltb (count_by auction_contra stay) 32 (improving_room m r (state s) s.table.rivals passed.1.1.1.1.1.1.1.0 passed.1.1.1.1.1.1.1.1.1.0))
+      (lt-ltb (count_by auction_contra stay) 32 (improving_room m r (state s) s.table.records.rivals passed.1.1.1.1.1.1.1.0 passed.1.1.1.1.1.1.1.1.1.0))
 
   -- what the code finds and makes, in the words of the rules
   module _ (old : Option Order) (was : old ≡ replaced m r (state s)) (n : ℕ) (side : Side) (x : Order) (new : x ≡ new_order n m side MarketMaker (limit_at p.value) size.count Competing) where
-    admitted : n ≡ s.table.next → admissible x (without_old old (orders s.table)) s.table.next ≡ true
+    admitted : n ≡ s.table.records.next → admissible x (without_old old (orders s.table)) s.table.records.next ≡ true
     admitted number =
-        ap (λ (y : Order). admissible y (without_old old (orders s.table)) s.table.next) new
-        ∙ ap (λ (y : Option Order). admissible (new_order n m side MarketMaker (limit_at p.value) size.count Competing) (without_old y (orders s.table)) s.table.next) was
+        ap (λ (y : Order). admissible y (without_old old (orders s.table)) s.table.records.next) new
+        ∙ ap (λ (y : Option Order). admissible (new_order n m side MarketMaker (limit_at p.value) size.count Competing) (without_old y (orders s.table)) s.table.records.next) was
         ∙ joins n side number
 
-    holds : (os : List Order) → os ≡ without_old old (orders s.table) ++ (x ∷ []) → held_well s.auction os ≡ true
+    holds : (os : List Order) → os ≡ without_old old (orders s.table) ++ (x ∷ []) → held_well (running s.phase) os ≡ true
     holds os e =
-        held_same s.auction os (stay ++ (x ∷ [])) (e ∙ ap (λ (y : Option Order). without_old y (orders s.table) ++ (x ∷ [])) was)
-        (held_improved m r (state s) s.table.next s.auction x s.table.rising (not-false (is_some s.auction) passed.1.1.1.1.1.1.1.1.1.1.0) (ap (λ (o : Order). auctioned o.role) new) s.held)
+        held_same (running s.phase) os (stay ++ (x ∷ [])) (e ∙ ap (λ (y : Option Order). without_old y (orders s.table) ++ (x ∷ [])) was)
+        (held_improved m r (state s) s.table.records.next (running s.phase) x s.table.records.rising (not-false (is_some (running s.phase)) passed.1.1.1.1.1.1.1.1.1.1.0) (ap (λ (o : Order). auctioned o.role) new) s.held)
 
 pub overflow_cast-number : goal.overflow_cast-number
 overflow_cast-number g c =
@@ -86,5 +87,4 @@ invariant_of-self g c =
     let clear = c.in_ok-check_improve.ensures in record {
       day = in_day s a.pass.now.series a.time a.member a.price a.size a.replaces a.rows.now clear;
       held = holds s a.pass.now.series a.time a.member a.price a.size a.replaces a.rows.now clear c.replaced-old.result c.replaced-old.ensures c.next-number.result c.contra_side-side.result c.maker_order-order.result c.maker_order-order.ensures (orders c.replace_order-count.new.table) c.replace_order-count.ensures.records;
-      quiet = s.quiet;
     }

@@ -1,4 +1,4 @@
-use Rattle.std.proofs.Common.{◌≡◌, ℕ, ◌≤◌, Bool, false, not, eqb, ltb, List, length, None, rules}
+use Rattle.std.proofs.Common.{◌≡◌, ℕ, ◌≤◌, Bool, false, not, eqb, ltb, List, length, None}
 use Rattle.std.proofs.lemmas.Bool.{or_parts, ltb-false}
 use Rattle.market.specs.Refusals.{first_hit}
 use Rattle.market.specs.declared.row.Row.{Row}
@@ -7,6 +7,7 @@ use Rattle.rules.specs.Calls.{opening, checks}
 use Rattle.rules.specs.Series.{State}
 use Rattle.order_table.specs.Orders.{orders}
 use Rattle.order_table.proofs.Records.{table_live}
+use Rattle.series.specs.Phases.{running}
 use Rattle.series.specs.State.{state}
 use Rattle.series.proofs.Answering.{all_clear}
 use Rattle.series.proofs.Opening.{quiet_before, few_orders, priced_top, held_after}
@@ -33,9 +34,9 @@ match_orders-count-requires g c =
     let s = a.self.now in
     let os = orders s.table in
     let k = accepted (state s) a.pass.series a.time a.waived a.rows.now c.in-Ok.ensures in
-    let none = quiet_before s.trading s.auction s.quiet k.before in
+    let none = quiet_before s.phase k.before in
     record {
-      few = few_orders s.auction os s.table.next none (table_live s.table) s.held;
+      few = few_orders (running s.phase) os s.table.records.next none (table_live s.table) s.held;
       room = k.room;
       price = priced_top os s.close.price.value c.top-opening.result c.top-opening.ensures;
     }
@@ -47,9 +48,8 @@ invariant_of-self-in-Ok g c =
     let os = orders s.table in
     let rule = g.R.SharingRule.shared s.rule in
     let k = accepted (state s) a.pass.series a.time a.waived a.rows.now c.in-Ok.ensures in
-    let none = quiet_before s.trading s.auction s.quiet k.before in
+    let none = quiet_before s.phase k.before in
     record {
       day = k.timely;
-      held = held_after rule s.auction os (orders c.match_orders-count.new.table) c.top-opening.result none s.held c.match_orders-count.ensures.left;
-      quiet = search rules;
+      held = held_after rule (running s.phase) os (orders c.match_orders-count.new.table) c.top-opening.result none s.held c.match_orders-count.ensures.left;
     }

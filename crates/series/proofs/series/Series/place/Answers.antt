@@ -14,9 +14,10 @@ use Rattle.rules.specs.Calls.{place, checks, new_order}
 use Rattle.rules.specs.Runs.{accepted, nothing}
 use Rattle.order_table.specs.Changes.{Appended}
 use Rattle.order_table.specs.Orders.{orders}
-use Rattle.order_table.specs.Records.{booked}
+use Rattle.book.specs.Records.{booked}
 use Rattle.order_table.specs.declared.table.Table.{Table}
 use Rattle.sharing.specs.Sharing.{Sharing}
+use Rattle.series.specs.Phases.{running}
 use Rattle.series.specs.State.{state}
 use Rattle.series.specs.declared.series.Series.{Series}
 use Rattle.series.proofs.Adding.{Added, added, timely, sized, kind_bounded}
@@ -32,10 +33,10 @@ module _ {R : Type 0} (s : Series R) (pass : ℕ) (t : Millis) (m : ℕ) (side :
   in_day : t.count ≤ 86400000
   in_day = timely 86400000 t.count (state s) passed.1.0
 
-  has_number : s.table.next < 65536
-  has_number = omega (arith, ltb-false 65536 (s.table.next + 1) passed.1.1.1.1.1.1.0)
+  has_number : s.table.records.next < 65536
+  has_number = omega (arith, ltb-false 65536 (s.table.records.next + 1) passed.1.1.1.1.1.1.0)
 
-  placed : (after : Table) (b : Bool) (x : Order) (n : ℕ) → Appended x s.table after b → x ≡ new_order n m side a k size.count Book → n ≡ s.table.next → Added (new_order s.table.next m side a k size.count Book) s.table after
+  placed : (after : Table) (b : Bool) (x : Order) (n : ℕ) → Appended x s.table after b → x ≡ new_order n m side a k size.count Book → n ≡ s.table.records.next → Added (new_order s.table.records.next m side a k size.count Book) s.table after
   placed after b x n h is number =
       added s.table after b x n m side a k size.count Book h is number (sized size.count (not-false (size_in_span size.count) passed.1.1.1.1.0)).1 (kind_bounded k passed.1.1.1.0)
       (lt-ltb (count_by booked (orders s.table)) 128 (leb-false 128 (count_by booked (orders s.table)) passed.1.1.1.1.1.0))
@@ -52,8 +53,7 @@ invariant_of-self g c =
     let clear = c.in_ok-check_place.ensures in
     let new = placed s a.pass.now.series a.time a.member a.side a.account a.kind a.size clear c.append.new.self c.append.result c.new_order-order.result c.next-number.result c.append.ensures c.new_order-order.ensures c.next-number.ensures in record {
       day = in_day s a.pass.now.series a.time a.member a.side a.account a.kind a.size clear;
-      held = held_same s.auction (orders c.append.new.self) _ new.records (held_pushed s.auction (orders s.table) _ s.held refl);
-      quiet = s.quiet;
+      held = held_same (running s.phase) (orders c.append.new.self) _ new.records (held_pushed (running s.phase) (orders s.table) _ s.held refl);
     }
 
 pub returns : goal.returns
@@ -68,6 +68,6 @@ returns g c =
       rule = refl {a = s.rule};
       answers =
           accepts rule st (place a.pass.now.series a.time a.member a.side a.account a.kind a.size) _ [] _ nothing clear
-          (changed_is st a.time.count 1 c.append.new.self.next (orders c.append.new.self) _ st.auction new.numbers new.records)
+          (changed_is st a.time.count 1 c.append.new.self.records.next (orders c.append.new.self) _ st.auction new.numbers new.records)
           (ap (λ (n : ℕ). accepted 0 (n ∷ []) None) c.next-number.ensures) refl refl;
     }

@@ -1,6 +1,6 @@
-use Rattle.std.proofs.Common.{◌≡◌, ℕ, ◌+◌, ◌≤◌, true, false, not, eqb, [], ◌∷◌, ◌++◌, is_some, Some, None, Option, sym, refl, ap, ◌∙◌, arith}
+use Rattle.std.proofs.Common.{◌≡◌, ℕ, ◌+◌, ◌≤◌, true, false, [], ◌∷◌, ◌++◌, Some, None, Option, sym, refl, ap, ◌∙◌, arith}
 use Rattle.std.specs.List.{AllByRecursion}
-use Rattle.std.proofs.lemmas.Bool.{not-false, or_parts, or_left, ltb-false, lt-ltb, eq-eqb}
+use Rattle.std.proofs.lemmas.Bool.{not-false, ltb-false, lt-ltb, eq-eqb}
 use Rattle.market.specs.Refusals.{first_hit}
 use Rattle.market.specs.Spans.{price_in_span, size_in_span}
 use Rattle.market.specs.Words.{other, limit_at}
@@ -14,6 +14,7 @@ use Rattle.market.specs.declared.units.Millis.{Millis}
 use Rattle.rules.specs.Calls.{start, checks, new_order}
 use Rattle.order_table.specs.Orders.{orders}
 use Rattle.series.specs.Held.{held_well}
+use Rattle.series.specs.Phases.{running}
 use Rattle.series.specs.State.{state}
 use Rattle.series.specs.declared.series.Series.{Series}
 use Rattle.series.proofs.Adding.{timely, sized, price_bounded}
@@ -36,14 +37,11 @@ module _ {R : Type 0} (s : Series R) (pass : ℕ) (t : Millis) (m : ℕ) (side :
   size_span : (1 ≤ size.count) × (size.count ≤ 9999)
   size_span = sized size.count (not-false (size_in_span size.count) passed.1.1.1.1.1.0)
 
-  numbers_left : s.table.next + 2 ≤ 65536
-  numbers_left = ltb-false 65536 (s.table.next + 2) passed.1.1.1.1.1.1.0
+  numbers_left : s.table.records.next + 2 ≤ 65536
+  numbers_left = ltb-false 65536 (s.table.records.next + 2) passed.1.1.1.1.1.1.0
 
   idle : held_well None (orders s.table) ≡ true
-  idle = ap (λ (x : Option Auction). held_well x (orders s.table)) (sym (none_of s.auction passed.1.1.1.1.1.1.1.0)) ∙ s.held
-
-  trades : s.trading ≡ true
-  trades = not-false s.trading (or_parts (not (eqb pass s.number)) (not s.trading) passed.0).1
+  idle = ap (λ (x : Option Auction). held_well x (orders s.table)) (sym (none_of (running s.phase) passed.1.1.1.1.1.1.1.0)) ∙ s.held
 
 pub append_pair-started-requires : goal.append_pair-started-requires
 append_pair-started-requires g c =
@@ -71,9 +69,8 @@ invariant_of-self g c =
     let span = size_span s pass a.time a.member a.side a.price a.size clear in
     let au : Auction = record { customer = pair.result.customer; starter = pair.result.starter; member = a.member; side = a.side; size = a.size; end = record { count = a.time.count + 3000 } } in
     let p = limit_at a.price.value in
-    let customer = new_order s.table.next a.member a.side Customer p a.size.count Auctioned in
-    let starter = new_order (s.table.next + 1) a.member (other a.side) MarketMaker p a.size.count Starter in record {
+    let customer = new_order s.table.records.next a.member a.side Customer p a.size.count Auctioned in
+    let starter = new_order (s.table.records.next + 1) a.member (other a.side) MarketMaker p a.size.count Starter in record {
       day = omega arith;
       held = held_same (Some au) (orders pair.new.table) (orders s.table ++ (customer ∷ starter ∷ [])) pair.ensures.records (held_started (orders s.table) au customer starter (idle s pass a.time a.member a.side a.price a.size clear) (span_from au span.0 span.1 (omega arith)) refl (sym pair.ensures.customer) refl (starter_from au starter (eq-eqb _ _ (sym pair.ensures.starter)) refl refl (lt-ltb 0 a.size.count span.0)));
-      quiet = or_left s.trading (not (is_some (Some au))) (trades s pass a.time a.member a.side a.price a.size clear);
     }

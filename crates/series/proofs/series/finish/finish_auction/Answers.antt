@@ -1,9 +1,7 @@
-use Rattle.std.proofs.Common.{◌-◌, ◌≤◌, length, drop, count_by, filter, refl, ap, arith}
-use Rattle.std.proofs.lemmas.List.{length-drop, length-map, length-take}
-use Rattle.std.proofs.lemmas.List.Sums.{length-filter}
-use Rattle.rules.specs.Calls.{withdrawn_row}
-use Rattle.order_table.specs.Filters.{passes}
-use Rattle.order_table.specs.declared.select.Filter.TheVariants.{Outside}
+use Rattle.std.proofs.Common.{◌-◌, ◌≤◌, length, drop, count_by, refl, ap, arith}
+use Rattle.std.proofs.lemmas.List.{length-drop, length-take}
+use Rattle.book.specs.Filters.{passes}
+use Rattle.book.specs.declared.select.Filter.TheVariants.{Outside}
 use Rattle.series.proofs.Finishing.{outside_few, finished_so}
 use Rattle.series.proofs.series.finish.finish_auction.Goals as goal
 
@@ -15,15 +13,6 @@ write_withdrawals-withdrawn-requires g c =
     let from = k.result.rows in
     let few = outside_few (g.R.SharingRule.shared a.rule.now) a.auction a.table.now k.new.table c.keep.new.self a.rows.now between k.result c.customer_taker.result c.customer_taker.ensures k.ensures.took c.keep.ensures.records in
     omega (arith, few, c.requires.others, ap (count_by (passes Outside)) c.live.ensures.is, k.ensures.took.few, c.requires.claims, c.requires.room, k.auto.rows, length-take (length between - from) (drop from between), length-drop from between)
-
-pub overflow_add-result : goal.overflow_add-result
-overflow_add-result g c =
-    let a = c.args in
-    let k = c.take_in_bounds-taken in
-    let w = c.write_withdrawals-withdrawn in
-    let gone = filter (passes Outside) c.live.result.now in
-    let few = outside_few (g.R.SharingRule.shared a.rule.now) a.auction a.table.now k.new.table c.keep.new.self a.rows.now k.new.rows k.result c.customer_taker.result c.customer_taker.ensures k.ensures.took c.keep.ensures.records in
-    omega (arith, few, c.requires.others, ap (count_by (passes Outside)) c.live.ensures.is, k.ensures.took.few, c.requires.claims, w.ensures.counted, length-map gone withdrawn_row, length-filter (passes Outside) c.live.result.now)
 
 pub returns : goal.returns
 returns g c =

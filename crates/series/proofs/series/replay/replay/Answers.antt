@@ -1,24 +1,14 @@
-use Rattle.std.proofs.Common.{◌≡◌, ◌+◌, List, [], ◌∷◌, ◌++◌, map, get_or, take, vec_items, sym, refl, ap, ◌∙◌, subst}
+use Rattle.std.proofs.Common.{◌≡◌, ◌+◌, List, [], ◌∷◌, ◌++◌, map, get_or, take, vec_items, sym, ap, ◌∙◌, subst}
 use Rattle.std.proofs.lemmas.List.{take_all, take_more}
 use Rattle.rules.proofs.Whole.{best_terms_stand}
 use Rattle.rules.specs.Runs.{after, event, run}
-use Rattle.rules.specs.Series.{State, fresh}
+use Rattle.rules.specs.Series.{State}
 use Rattle.series.specs.Days.{call_of, event_of}
 use Rattle.series.specs.State.{state}
 use Rattle.series.specs.declared.day.DayCall.{DayCall}
 use Rattle.series.specs.declared.day.JournalEntry.{JournalEntry}
-use Rattle.series.proofs.Replaying.{Replaying, no_call, replaying_none, replaying_more}
+use Rattle.series.proofs.Replaying.{Replaying, no_call, replaying_more}
 use Rattle.series.proofs.series.replay.replay.Goals as goal
-
-pub loop-call-init : goal.loop-call-init
-loop-call-init g c =
-    let s = c.new-series.result.0 in
-    let e = c.new-series.ensures.state in
-    let close = s.close.price.value in (
-      refl,
-      replaying_none (g.R.SharingRule.shared s.rule) c.args.number close (state s) (vec_items c.new-journal.result)
-          (e ∙ ap (fresh c.args.number) (sym (ap (λ (x : State). x.close) e))) c.new-journal.ensures.items,
-    )
 
 pub loop-call-preserved : goal.loop-call-preserved
 loop-call-preserved g c =

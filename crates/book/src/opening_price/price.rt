@@ -1,0 +1,67 @@
+// The prices of a search for the opening price.
+ghost use Rattle.std.specs.Prelude.{◌≡◌, ◌≤◌, true};
+ghost use Rattle.book.specs.Candidates as grid;
+
+// A price that a limit or the close may have.
+#[derive(Clone, Copy)]
+pub struct Price {
+    pub value: u32,
+    ghost span: { value ≤ 99999 },
+}
+
+// A multiple of the grid's step; 0 and 100,000 lie beyond the ends of the grid.
+#[derive(Clone, Copy)]
+pub struct GridPrice {
+    pub value: u32,
+    ghost step: { grid.on_step value ≡ true },
+}
+
+impl Price {
+    // The last grid price that is not above this price.
+    pub fn floor(self) -> GridPrice
+        ensures { result.value ≡ grid.floor self.value }
+    {
+        let price = self.value;
+        let step = if price < 300 { 5 } else { 10 };
+        GridPrice {
+            value: price - price % step,
+        }
+    }
+
+    // The first grid price above this price.
+    pub fn next(self) -> GridPrice
+        ensures { result.value ≡ grid.above (grid.floor self.value) }
+    {
+        let last = self.floor().value;
+        let step = if last < 300 { 5 } else { 10 };
+        GridPrice { value: last + step }
+    }
+
+    // The first grid price that is not below this price.
+    pub fn ceiling(self) -> GridPrice
+        ensures { result.value ≡ grid.ceiling self.value }
+    {
+        let last = self.floor();
+        if last.value == self.value {
+            last
+        } else {
+            self.next()
+        }
+    }
+}
+
+impl GridPrice {
+    // The grid price before this one.
+    pub fn below(self) -> GridPrice
+        ensures { result.value ≡ grid.below self.value }
+    {
+        let price = self.value;
+        if price > 300 {
+            GridPrice { value: price - 10 }
+        } else {
+            GridPrice {
+                value: price.saturating_sub(5),
+            }
+        }
+    }
+}

@@ -1,3 +1,0 @@
-pub mod Candidates
-pub mod Rungs
-pub mod Search
