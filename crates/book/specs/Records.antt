@@ -1,12 +1,16 @@
 -- What the table of order records keeps.
 use Rattle.std.specs.Prelude.{◌≡◌, ℕ, ◌+◌, ◌≤◌, Bool, true, not, ◌&&◌, ◌||◌, List, [], ◌∷◌, length, count_by, ◌==◌, nat_le, nat_lt}
 use Rattle.std.specs.List.{AllByRecursion}
-use Rattle.market.specs.Words.{in_book, auctioned}
+use Rattle.market.specs.Words.{in_book, auctioned, price_of}
 use Rattle.market.specs.declared.order.Order.{Order}
 
 -- left, traded and gone add up to the size, which is at most 9,999
 abbrev pub balanced : Order → Bool
 balanced o = o.left.count + o.traded.count + o.gone.count == o.size.count && nat_le o.size.count 9999
+
+-- a record that no order uses has no price
+abbrev pub free_record : Order → Bool
+free_record o = price_of o.kind == 0
 
 -- the numbers rise, above low and below top
 abbrev pub rises : ℕ → List Order → ℕ → Bool

@@ -64,7 +64,8 @@ impl Claimed<'_> {
     {
         let taking = self.taking;
         let mark = self.mark();
-        let _ = rule.share(self.claims, taking.amount, mark, taking.guarantee, shares);
+        rule.share(self.claims, taking.amount, mark, taking.guarantee, shares)
+            .unwrap();
     }
 }
 

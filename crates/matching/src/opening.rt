@@ -21,7 +21,7 @@ use book::select::Filter;
 use book::settle::scatter;
 use market::checks::HIGHEST_PRICE;
 use market::order::{Order, Side};
-use market::refusal::Refusal;
+use market::refusal::{Refusal, refuse_if};
 use market::row::Row;
 use market::units::{Cents, Contracts};
 use order_table::table::Table;
@@ -116,10 +116,8 @@ impl Opening<'_> {
 fn check_opening(orders: usize, price: Cents, rows: usize) -> Result<(), Refusal>
     ensures { refused_by result ≡ first_hit (opening_checks orders price.value rows) }
 {
-    if orders > MOST_CLAIMS || orders > rows || price.value > HIGHEST_PRICE {
-        return Err(Refusal::OutOfBounds);
-    }
-    Ok(())
+    let fits = orders <= MOST_CLAIMS && orders <= rows && price.value <= HIGHEST_PRICE;
+    refuse_if(!fits, Refusal::OutOfBounds)
 }
 
 // The contracts that trade at a price.

@@ -10,7 +10,7 @@ use book::select::{Filter, count, volume};
 pub use book::take::Taker;
 use book::take::take_fills;
 use market::order::Order;
-use market::refusal::Refusal;
+use market::refusal::{Refusal, refuse_if};
 use market::row::Row;
 use market::units::Contracts;
 use order_table::table::Table;
@@ -33,13 +33,11 @@ fn check_taking(
     ensures { refused_by result ≡ first_hit (taking_checks orders.now (passes filter) taking rows) }
 {
     let many = count(orders, filter);
-    if many > MOST_CLAIMS || many > rows {
-        return Err(Refusal::OutOfBounds);
-    }
-    if taking.amount.count > LARGEST_AMOUNT || taking.guarantee.count > LARGEST_CLAIM {
-        return Err(Refusal::OutOfBounds);
-    }
-    Ok(())
+    let fits = many <= MOST_CLAIMS
+        && many <= rows
+        && taking.amount.count <= LARGEST_AMOUNT
+        && taking.guarantee.count <= LARGEST_CLAIM;
+    refuse_if(!fits, Refusal::OutOfBounds)
 }
 
 // A taker takes from the orders that pass, best first: T rows at the prices where they stand, and what is left of them.

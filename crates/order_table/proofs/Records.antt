@@ -1,9 +1,10 @@
 -- Laws of the table's records.
-use Rattle.std.proofs.Common.{◌≡◌, ℕ, ◌+◌, ◌<◌, ◌≤◌, min, Bool, true, cond, not, ◌||◌, ltb, leb, List, [], ◌∷◌, ◌++◌, map, get_or, count_by, refl, ap, subst, arith}
-use Rattle.std.specs.List.{AllByRecursion}
-use Rattle.std.proofs.ByRecursion.{All-append, all_kept_by}
+use Rattle.std.proofs.Common.{◌≡◌, ℕ, ◌+◌, ◌<◌, ◌≤◌, min, Bool, true, cond, not, ◌||◌, ltb, leb, List, [], ◌∷◌, ◌++◌, map, get_or, count_by, take, drop, refl, ap, subst, arith}
+use Rattle.std.specs.List.{list_all, AllByRecursion}
+use Rattle.std.proofs.ByRecursion.{All-append, All-take, All-weaker, all_kept_by}
+use Rattle.std.proofs.lemmas.List.{take-append-drop}
 use Rattle.std.proofs.lemmas.List.Sums.{sum_by-append}
-use Rattle.std.proofs.lemmas.Bool.{and_from, ltb-true, le-leb, eq-eqb, cond_both}
+use Rattle.std.proofs.lemmas.Bool.{and_from, ltb-true, le-leb, eq-eqb, eqb-true, cond_both}
 use Rattle.market.specs.Words.{standing, in_book, auctioned, limit_at, price_of}
 use Rattle.market.specs.declared.order.Order.{Order}
 use Rattle.market.specs.declared.order.OrderKind.{OrderKind}
@@ -11,9 +12,11 @@ use Rattle.market.specs.declared.order.OrderKind.TheVariants.{Limit, MarketOnOpe
 use Rattle.market.specs.declared.order.Role.{Role}
 use Rattle.market.specs.declared.order.Role.TheVariants.{Book, Auctioned, Starter, Competing}
 use Rattle.rules.specs.Allocation.{after_trade}
-use Rattle.book.specs.Records.{balanced, booked, auction_contra, customers, Live}
+use Rattle.book.specs.Orders.{orders as records_of}
+use Rattle.book.specs.declared.table.Table.{Table as RecordTable}
+use Rattle.book.specs.Records.{balanced, free_record, booked, auction_contra, customers, Live}
 use Rattle.book.specs.Settling.{by_place, settled_up_to, traded_up_to}
-use Rattle.book.proofs.Records.{count_three, live_changed, pass_all, rises_push}
+use Rattle.book.proofs.Records.{all_passes, count_three, live_changed, pass_all, rises_push}
 use Rattle.book.proofs.Records.{table_live as records_live}
 use Rattle.order_table.specs.Changes.{role_room}
 use Rattle.rules.specs.Opening.{limited_at}
@@ -27,7 +30,17 @@ pub table_live : (t : Table) → Live (orders t) (next_number t)
 table_live t = records_live t.records
 
 pub table_priced : (t : Table) → AllByRecursion (λ o. priced o ≡ true) (orders t)
-table_priced t = pass_all priced (orders t) t.prices
+table_priced t = All-take (λ (o : Order). priced o ≡ true) t.records.count t.records.records (pass_all priced t.records.records t.prices)
+
+free_priced : (o : Order) → free_record o ≡ true → priced o ≡ true
+free_priced o h = let e : price_of o.kind ≡ 0 = eqb-true (price_of o.kind) 0 h in le-leb _ _ (omega arith)
+
+-- where the live records are priced, all are: the others are free
+pub all_priced : (r : RecordTable) → AllByRecursion (λ o. priced o ≡ true) (records_of r) → list_all priced r.records ≡ true
+all_priced r h =
+    let rest : AllByRecursion (λ o. priced o ≡ true) (drop r.count r.records) = All-weaker (λ (o : Order). free_record o ≡ true) (λ (o : Order). priced o ≡ true) free_priced (drop r.count r.records) (pass_all free_record (drop r.count r.records) r.free) in
+    all_passes priced r.records
+    (subst (AllByRecursion (λ (o : Order). priced o ≡ true)) (take-append-drop r.count r.records) (All-append (λ (o : Order). priced o ≡ true) (take r.count r.records) (drop r.count r.records) h rest))
 
 -- ---- one record
 

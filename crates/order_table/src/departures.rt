@@ -37,6 +37,7 @@ fn write_rows(orders: &[Order], filter: Filter, departure: Departure, rows: &mut
     requires { count_by (passes filter) orders.now ≤ length rows.old }
     ensures { rows.new ≡ map (departure_row departure) (kept_by (passes filter) orders.now) ++ drop (count_by (passes filter) orders.now) rows.old }
 {
+    // By index: what is written through a zipped `iter_mut` is not known afterwards.
     for (i, order) in orders
         .iter()
         .filter(|order| filter.passes(order))

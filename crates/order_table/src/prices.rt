@@ -40,6 +40,8 @@ pub fn better_price(side: Side, price: Option<Cents>, other: Option<Cents>) -> O
     }
 }
 
+// The two walks below are a `for` and no `fold`: an invariant of one line proves them, and of a `fold` no proof was found.
+
 // What an away market quotes a taker on that side.
 fn quoted(side: Side, quote: &Quote) -> Option<Cents>
     ensures { cents result ≡ quoted side quote.now }

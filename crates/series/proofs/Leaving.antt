@@ -1,12 +1,17 @@
 -- Orders leave, and the starter's order stays.
-use Rattle.std.proofs.Common.{◌≡◌, ℕ, Bool, true, not, ◌&&◌, eqb, List, Some, filter, Option}
-use Rattle.std.proofs.lemmas.Bool.{and_parts, both_ways, eqb-true}
+use Rattle.std.proofs.Common.{◌≡◌, ℕ, ◌≤◌, Bool, true, not, ◌&&◌, eqb, ltb, List, ◌++◌, length, drop, Some, filter, Option, Ok, Err, Result, MatchResult, refl, subst, arith}
+use Rattle.std.specs.Result.{IsOk}
+use Rattle.std.proofs.lemmas.Bool.{and_parts, both_ways, eqb-true, ltb-true}
+use Rattle.market.proofs.Tables.{hit}
 use Rattle.market.specs.Words.{in_book}
 use Rattle.market.specs.declared.auction.Auction.{Auction}
 use Rattle.market.specs.declared.order.Order.{Order}
+use Rattle.market.specs.declared.refusal.Refusal.{Refusal}
+use Rattle.market.specs.declared.row.Row.{Row}
 use Rattle.rules.specs.Calls.{without}
 use Rattle.rules.specs.Series.{found, book_order, due}
 use Rattle.rules.proofs.Tally.{all_of}
+use Rattle.order_table.specs.Departures.{Wrote}
 use Rattle.book.specs.Records.{rises}
 use Rattle.series.specs.Held.{starters_order, held_well}
 use Rattle.series.proofs.Holding.{held_parts, held_kept}
@@ -32,3 +37,14 @@ held_lasting au os t h =
     let stays : Order → Bool = λ x. not (due t x.exposed) in
     held_kept au os stays h
     (stands_kept au stays os (λ a. all_of (λ (x : Order). starters_order a x ≡ true → stays x ≡ true) os (λ x k. lasting t x.exposed (starter_parts a x k).2)) (held_parts au os h).2)
+
+-- rows that fit are written
+pub fits : (rows before after : List Row) (r : Result ℕ Refusal) → length rows ≤ length before → Wrote rows before after r → IsOk r
+fits rows before after (Ok n) le w = refl
+fits rows before after (Err e) le w =
+    let over = ltb-true (length before) (length rows) (hit 7 (ltb (length before) (length rows)) _ w.answer_is) in
+    absurd (let w : ⊥ = omega arith in w)
+
+-- how many rows are written, and where
+pub fitted : (rows before after : List Row) (r : Result ℕ Refusal) (n : ℕ) → r ≡ Ok n → Wrote rows before after r → (n ≡ length rows) × (after ≡ rows ++ drop n before)
+fitted rows before after r n e w = subst (λ (x : Result ℕ Refusal). MatchResult x (λ k. (k ≡ length rows) × (after ≡ rows ++ drop k before)) (λ _. after ≡ before)) e w.rows_are

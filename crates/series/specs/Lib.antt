@@ -5,7 +5,6 @@ pub mod Days
 pub mod Phases
 pub mod State
 pub mod Answers
-pub mod Contra
 pub mod Openings
 pub mod Remainders
 pub mod Entering

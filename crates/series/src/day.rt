@@ -1,7 +1,7 @@
 // A day as data: calls with all that they are given, and the journal of their events.
 use market::order::{Account, OrderKind, Side};
 use market::refusal::Refusal;
-use market::row::{Row, RowKind};
+use market::row::{NO_PRICE, Row, RowKind};
 use market::units::{Cents, Contracts, Millis};
 
 // A ticket as it is shown: its series, its customer's order number, whether it is discharged.
@@ -20,8 +20,8 @@ pub const UNUSED_ROW: Row = Row {
     kind: RowKind::Withdrawn,
     first: 0,
     second: 0,
-    price: Cents { value: 0 },
-    contracts: Contracts { count: 0 },
+    price: NO_PRICE,
+    contracts: Contracts::NONE,
 };
 
 // An order before the opening.

@@ -38,10 +38,7 @@ pub fn check_day<R: SharingRule + Drop>(
     rule: R,
     day: &[(DayCall, u8)],
 ) -> Result<Vec<JournalEntry>, Fail> {
-    let mut calls: Vec<DayCall> = Vec::new(rt.alloc());
-    for (call, _) in day {
-        calls.push(*call)?;
-    }
+    let calls: Vec<DayCall> = day.iter().map(|(call, _)| *call).collect(rt.alloc())?;
     let journal = replay(rt.alloc(), rule, SERIES, Close::new(CLOSE)?, &calls)?;
     for (entry, (_, expected)) in journal.iter().zip(day.iter()) {
         assert_eq!(rt; refusal(entry), *expected);

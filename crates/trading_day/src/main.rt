@@ -25,17 +25,17 @@ use std::io;
 // Two orders before the opening, and what the series answers then.
 fn print_questions(rt: &HostRuntime, close: Close) -> io::Result<()> {
     let (mut series, pass) = Series::new(SERIES, close, TimeWithGuarantee);
-    let noon = Millis { count: 0 };
+    let start = Millis { count: 0 };
     let size = Contracts { count: 10 };
     let bid = OrderKind::Limit(Cents { value: 210 });
     let offer = OrderKind::Limit(Cents { value: 195 });
-    let _ = series.place(&pass, noon, 7, Side::Buy, Account::Customer, bid, size);
-    let _ = series.place(&pass, noon, 8, Side::Sell, Account::Customer, offer, size);
+    let _ = series.place(&pass, start, 7, Side::Buy, Account::Customer, bid, size);
+    let _ = series.place(&pass, start, 8, Side::Sell, Account::Customer, offer, size);
     if let Ok(Some((price, quantity))) = series.top(&pass) {
         println!(rt; "Would open at {price}, {quantity} contracts would trade")?;
     }
     for order in 1..4 {
-        let left = series.left(order).count;
+        let left = series.left(order);
         println!(rt; "Left of order {order}: {left}")?;
     }
     Ok(())
@@ -54,9 +54,7 @@ fn print_day(rt: &HostRuntime, close: Close) -> anyhow::Result<()> {
 }
 
 fn main(rt: HostRuntime) -> anyhow::Result<()> {
-    let Ok(close) = Close::new(CLOSE) else {
-        return Ok(());
-    };
+    let close = Close::new(CLOSE).unwrap();
     println!(&rt; "Two orders, before the opening")?;
     print_questions(&rt, close)?;
     println!(&rt; "")?;

@@ -1,6 +1,8 @@
 // The prices of a search for the opening price.
-ghost use Rattle.std.specs.Prelude.{◌≡◌, ◌≤◌, true};
+ghost use Rattle.std.specs.Prelude.{◌≡◌, ◌≤◌, true, cond, nat_lt};
 ghost use Rattle.book.specs.Candidates as grid;
+
+use market::checks::{COARSE_FROM, COARSE_STEP, FINE_STEP};
 
 // A price that a limit or the close may have.
 #[derive(Clone, Copy)]
@@ -16,15 +18,25 @@ pub struct GridPrice {
     ghost step: { grid.on_step value ≡ true },
 }
 
+// The grid's step from a price on.
+fn step_from(price: u32) -> u32
+    ensures { result ≡ cond (nat_lt price 300) 5 10 }
+{
+    if price < COARSE_FROM {
+        FINE_STEP
+    } else {
+        COARSE_STEP
+    }
+}
+
 impl Price {
     // The last grid price that is not above this price.
     pub fn floor(self) -> GridPrice
         ensures { result.value ≡ grid.floor self.value }
     {
         let price = self.value;
-        let step = if price < 300 { 5 } else { 10 };
         GridPrice {
-            value: price - price % step,
+            value: price - price % step_from(price),
         }
     }
 
@@ -33,8 +45,9 @@ impl Price {
         ensures { result.value ≡ grid.above (grid.floor self.value) }
     {
         let last = self.floor().value;
-        let step = if last < 300 { 5 } else { 10 };
-        GridPrice { value: last + step }
+        GridPrice {
+            value: last + step_from(last),
+        }
     }
 
     // The first grid price that is not below this price.

@@ -66,7 +66,7 @@ impl Table {
         ensures numbers { self.new.next ≡ next }
     {
         let n = live.len();
-        let mut records = self.records;
+        let mut records = [BLANK; 161];
         records[0..n].copy_from_slice(live);
         self.records = records;
         self.count = n;

@@ -10,7 +10,6 @@ ghost use Rattle.rules.specs.Runs as runs;
 ghost use Rattle.order_table.specs.Orders.{orders, next_number};
 ghost use Rattle.book.specs.Records.{customers, auction_contra};
 ghost use Rattle.series.specs.Answers.{Answers, told_start, told_entry, handed_start};
-ghost use Rattle.series.specs.Contra.{contra_side};
 ghost use Rattle.series.specs.State.{state};
 ghost use Rattle.series.specs.Tickets.{shown};
 
@@ -30,13 +29,6 @@ use sharing::rule::SharingRule;
 
 // How long an auction runs.
 const AUCTION_LENGTH: u32 = 3_000;
-
-// The side of the orders against an auction's customer.
-fn contra_side(auction: Option<Auction>) -> Side
-    ensures { result ≡ contra_side auction }
-{
-    auction.map_or(Side::Sell, |auction| auction.side.other())
-}
 
 // Adds the customer's and the starter's order of a new auction.
 fn append_pair(table: &mut Table, member: u16, side: Side, price: Cents, size: Contracts) -> Started
@@ -70,6 +62,7 @@ fn append_pair(table: &mut Table, member: u16, side: Side, price: Cents, size: C
 
 impl<R: SharingRule> Series<R> {
     // Starts an auction of a customer's order; its ticket is the duty to finish it.
+    // The parameters of a call are a rule of this project.
     pub fn start(
         &mut self,
         pass: &TradingPass,
@@ -107,6 +100,7 @@ impl<R: SharingRule> Series<R> {
     }
 
     // Adds an order against the customer, or replaces one of the same member.
+    // The parameters of a call are a rule of this project.
     pub fn improve(
         &mut self,
         pass: &TradingPass,
@@ -123,7 +117,8 @@ impl<R: SharingRule> Series<R> {
         self.check_improve(pass, time, member, price, size, replaces, rows)?;
         let old = self.replaced(member, replaces);
         let number = self.table.next() as u16;
-        let side = contra_side(self.phase.auction());
+        // An auction runs: it is checked.
+        let side = self.phase.auction().unwrap().side.other();
         let order = maker_order(number, member, side, price, size, Role::Competing);
         let count = replace_order(&mut self.table, old, order, rows);
         self.time = time;
@@ -134,6 +129,7 @@ impl<R: SharingRule> Series<R> {
     }
 
     // Replaces the starter's order by one at a better price.
+    // The parameters of a call are a rule of this project.
     pub fn better(
         &mut self,
         pass: &TradingPass,

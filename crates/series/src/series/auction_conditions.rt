@@ -12,6 +12,7 @@ use crate::ticket::Ticket;
 use book::select::{Filter, count, find};
 use market::auction::Auction;
 use market::order::{Order, Side};
+use market::row::NO_PRICE;
 use market::units::{Cents, Contracts, Millis};
 use order_table::prices::{better_price, book_best, is_better};
 use sharing::rule::SharingRule;
@@ -100,12 +101,12 @@ impl<R: SharingRule> Series<R> {
         find(self.table.live(), Filter::Numbered(auction.starter))
     }
 
-    // The price of the starter's order.
+    // The price of the starter's order. The rules say 0 where it is gone.
     fn starter_price(&self, auction: Auction) -> Cents
         ensures { result.value ≡ starter_price (state self.now) auction }
     {
         self.starter_order(auction)
-            .map_or(Cents { value: 0 }, |order| order.kind.price())
+            .map_or(NO_PRICE, |order| order.kind.price())
     }
 
     // Whether a price and a size are no improvement, given the order that is replaced.

@@ -19,6 +19,7 @@ use sharing::rule::SharingRule;
 
 impl<R: SharingRule> Series<R> {
     // Puts an order into the book before the opening.
+    // The parameters of a call are a rule of this project.
     pub fn place(
         &mut self,
         pass: &PreOpeningPass,
@@ -65,7 +66,9 @@ impl<R: SharingRule> Series<R> {
     {
         self.check_clock(time, rows)?;
         let live = self.table.live();
-        let count = write_departures(live, Filter::Due(time), Departure::ExposureEnd, rows)?;
+        let due = Filter::Due(time);
+        // The rows fit: there is room for one of each order.
+        let count = write_departures(live, due, Departure::ExposureEnd, rows).unwrap();
         self.table.keep(Filter::Lasting(time));
         self.time = time;
         Ok(count)

@@ -93,15 +93,15 @@ fn place_remainder(
 {
     match remainder {
         None => {
-            table.skip_number();
+            let _ = table.skip_number();
             count
         }
         Some(Remainder::Stands(order)) => {
-            table.append(order);
+            let _ = table.append(order);
             count
         }
         Some(Remainder::Returned(row)) => {
-            table.skip_number();
+            let _ = table.skip_number();
             rows[count] = row;
             count + 1
         }
@@ -109,7 +109,8 @@ fn place_remainder(
 }
 
 // Trades an order with the book up to its bound, and then its remainder stands, is exposed or is returned. Answers how
-// many rows are written.
+// many rows are written. The parameters are the parts of a series that it needs and the order's own: a struct of them
+// would be made for this one use.
 fn enter_order<R: SharingRule>(
     rule: &R,
     table: &mut Table,
@@ -147,6 +148,7 @@ fn enter_order<R: SharingRule>(
 
 impl<R: SharingRule> Series<R> {
     // Trades an order with the book, no worse than the away best, and what is left of it is exposed or stands.
+    // The parameters of a call are a rule of this project.
     pub fn enter(
         &mut self,
         pass: &TradingPass,

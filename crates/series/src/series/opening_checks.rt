@@ -1,4 +1,5 @@
-// When the opening and the question for its price are refused.
+// When the opening and the question for its price are refused. A check has its call's own parameters: a struct of them
+// would be made for this one use.
 ghost use Rattle.std.specs.Prelude.{◌≡◌, count_by, nat_lt};
 ghost use Rattle.market.specs.Refusals.{refused_by, first_hit};
 ghost use Rattle.rules.specs.Calls.{checks};

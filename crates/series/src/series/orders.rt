@@ -42,7 +42,7 @@ pub(super) fn new_order(
     }
 }
 
-// A market maker's order with a limit.
+// A market maker's order with a limit. Its parameters are the fields that differ, as above.
 pub(super) fn maker_order(
     number: u16,
     member: u16,

@@ -1,8 +1,9 @@
-use Rattle.std.proofs.Common.{◌≡◌, ℕ, ◌+◌, ◌≤◌, true, List, [], ◌∷◌, ◌++◌, length, take, set, sym, ◌∙◌, subst, arith}
-use Rattle.std.proofs.lemmas.List.{length-set, length-append, length-take-le, take_more_set}
-use Rattle.std.proofs.ByRecursion.{all-has, All-set, has_push}
+use Rattle.std.proofs.Common.{◌≡◌, ℕ, ◌+◌, ◌≤◌, true, List, [], ◌∷◌, ◌++◌, length, take, drop, set, sym, ◌∙◌, subst, arith}
+use Rattle.std.specs.List.{AllByRecursion}
+use Rattle.std.proofs.lemmas.List.{length-set, length-append, length-take-le, take_more_set, drop-drop, drop-set-lt}
+use Rattle.std.proofs.ByRecursion.{all-has, All-set, All-drop, has_push}
 use Rattle.market.specs.declared.order.Order.{Order}
-use Rattle.book.specs.Records.{balanced, Live}
+use Rattle.book.specs.Records.{balanced, free_record, Live}
 use Rattle.book.proofs.Records.{pass_all, all_passes}
 use Rattle.book.proofs.table.Table.append.Goals as goal
 
@@ -24,6 +25,7 @@ invariant_of-self c =
       long = length-set t.records t.count o ∙ t.long;
       few = omega arith;
       sound = all_passes balanced (set t.records t.count o) (All-set (λ (x : Order). balanced x ≡ true) t.records t.count o fine (pass_all balanced t.records t.sound));
+      free = all_passes free_record (drop (t.count + 1) (set t.records t.count o)) (subst (AllByRecursion (λ (x : Order). free_record x ≡ true)) (drop-drop 1 t.count t.records ∙ sym (drop-set-lt (t.count + 1) t.records t.count o (omega arith))) (All-drop (λ (x : Order). free_record x ≡ true) 1 (drop t.count t.records) (pass_all free_record (drop t.count t.records) t.free)));
       rising = grown.rising;
       books = grown.books;
       rivals = grown.rivals;

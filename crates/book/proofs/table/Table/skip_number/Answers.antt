@@ -10,6 +10,7 @@ invariant_of-self c =
       long = t.long;
       few = t.few;
       sound = t.sound;
+      free = t.free;
       rising = rises_wider 0 0 (orders t) (t.next + 1) t.next (omega arith) (omega arith) t.rising;
       books = t.books;
       rivals = t.rivals;

@@ -1,9 +1,7 @@
-use Rattle.std.proofs.Common.{◌≡◌, ℕ, ◌+◌, ◌≤◌, Bool, not, ltb, List, [], map, length, None, filter, refl, ap, arith}
+use Rattle.std.proofs.Common.{◌≡◌, ℕ, ◌+◌, ◌≤◌, Bool, not, List, [], map, length, None, filter, refl, ap, arith}
 use lib.ListN.{length-map}
 use Rattle.std.proofs.lemmas.List.Sums.{length-filter, count_by-le-length}
-use Rattle.std.proofs.lemmas.Bool.{ltb-true, ltb-false}
-use Rattle.market.proofs.Tables.{hit}
-use Rattle.market.specs.Refusals.{refusal_number}
+use Rattle.std.proofs.lemmas.Bool.{ltb-false}
 use Rattle.market.specs.declared.order.Order.{Order}
 use Rattle.market.specs.declared.row.Row.{Row}
 use Rattle.rules.specs.Calls.{checks, clock, exposure_row}
@@ -17,7 +15,7 @@ use Rattle.series.specs.State.{state}
 use Rattle.series.proofs.Adding.{timely}
 use Rattle.series.proofs.Answering.{all_clear, accepts, changed, changed_is, written_is}
 use Rattle.series.proofs.Holding.{held_same}
-use Rattle.series.proofs.Leaving.{held_lasting}
+use Rattle.series.proofs.Leaving.{held_lasting, fits, fitted}
 use Rattle.series.proofs.series.Series.clock.Goals as goal
 
 -- the rows of the exposures that end
@@ -30,14 +28,14 @@ few t os next l =
     let most = l.few in
     omega (arith, length-map (filter p os) exposure_row, length-filter p os, count_by-le-length p os)
 
-pub returns-in_err-count : goal.returns-in_err-count
-returns-in_err-count g c =
+pub unwrap-count-requires : goal.unwrap-count-requires
+unwrap-count-requires g c =
     let a = c.args in
-    let h = all_clear (checks (state a.self.now) (clock a.time a.rows.now)) c.in_ok-check_clock.ensures in
+    let s = a.self.now in
+    let h = all_clear (checks (state s) (clock a.time a.rows.now)) c.in_ok-check_clock.ensures in
     let rows = exposure_rows a.time.count c.live-live.result.now in
-    let w = c.in_err-count.ensures.answer_is in
-    let short = hit 7 (ltb (length a.rows.now) (length rows)) (refusal_number c.in_err-count.field-0.0) w in
-    absurd (omega (arith, ltb-true (length a.rows.now) (length rows) short, ltb-false (length a.rows.now) 192 h.1.0, few a.time.count c.live-live.result.now a.self.now.table.records.next c.live-live.ensures.kept))
+    let room : length rows ≤ length a.rows.now = omega (arith, ltb-false (length a.rows.now) 192 h.1.0, few a.time.count c.live-live.result.now s.table.records.next c.live-live.ensures.kept) in
+    fits rows a.rows.now c.write_departures.new.rows c.write_departures.result room c.write_departures.ensures
 
 pub invariant_of-self : goal.invariant_of-self
 invariant_of-self g c =
@@ -54,8 +52,8 @@ returns g c =
     let s = a.self.now in
     let st = state s in
     let rule : Sharing = g.R.SharingRule.shared s.rule in
-    let n = c.in_ok-count.count in
-    let put = c.in_ok-count.ensures.rows_are in
+    let n = c.unwrap-count.result in
+    let put = fitted (exposure_rows a.time.count c.live-live.result.now) a.rows.now c.write_departures.new.rows c.write_departures.result n c.unwrap-count.ensures c.write_departures.ensures in
     let rows = exposure_rows a.time.count (orders s.table) in
     let w = written_is (exposure_rows a.time.count c.live-live.result.now) rows a.rows.now c.write_departures.new.rows n (ap (exposure_rows a.time.count) c.live-live.ensures.is) put.0 put.1 in
     let next : c.keep.new.self.records.next ≡ s.table.records.next + 0 = omega (arith, c.keep.ensures.numbers) in

@@ -40,6 +40,9 @@ module _ {R : Type 0} (s : Series R) (pass : ℕ) (t : Millis) (m : ℕ) (p : Ce
   has_rows : 1 ≤ length rows
   has_rows = omega (arith, ltb-false (length rows) 192 passed.1.1.1.1.1.1.0)
 
+  runs : is_some (running s.phase) ≡ true
+  runs = not-false (is_some (running s.phase)) passed.1.1.1.1.1.1.1.1.1.1.0
+
   has_number : s.table.records.next < 65536
   has_number = omega (arith, ltb-false 65536 (s.table.records.next + 1) passed.1.1.1.1.1.1.1.1.0)
 
@@ -61,12 +64,17 @@ module _ {R : Type 0} (s : Series R) (pass : ℕ) (t : Millis) (m : ℕ) (p : Ce
     holds : (os : List Order) → os ≡ without_old old (orders s.table) ++ (x ∷ []) → held_well (running s.phase) os ≡ true
     holds os e =
         held_same (running s.phase) os (stay ++ (x ∷ [])) (e ∙ ap (λ (y : Option Order). without_old y (orders s.table) ++ (x ∷ [])) was)
-        (held_improved m r (state s) s.table.records.next (running s.phase) x s.table.records.rising (not-false (is_some (running s.phase)) passed.1.1.1.1.1.1.1.1.1.1.0) (ap (λ (o : Order). auctioned o.role) new) s.held)
+        (held_improved m r (state s) s.table.records.next (running s.phase) x s.table.records.rising runs (ap (λ (o : Order). auctioned o.role) new) s.held)
 
 pub overflow_cast-number : goal.overflow_cast-number
 overflow_cast-number g c =
     let a = c.args in
     omega (arith, has_number a.self.now a.pass.now.series a.time a.member a.price a.size a.replaces a.rows.now c.in_ok-check_improve.ensures, c.next-number.ensures)
+
+pub unwrap-requires : goal.unwrap-requires
+unwrap-requires g c =
+    let a = c.args in
+    ap is_some c.auction.ensures ∙ runs a.self.now a.pass.now.series a.time a.member a.price a.size a.replaces a.rows.now c.in_ok-check_improve.ensures
 
 pub replace_order-count-requires : goal.replace_order-count-requires
 replace_order-count-requires g c =
@@ -77,7 +85,7 @@ replace_order-count-requires g c =
       room = has_rows s a.pass.now.series a.time a.member a.price a.size a.replaces a.rows.now clear;
       admissible =
           admitted s a.pass.now.series a.time a.member a.price a.size a.replaces a.rows.now clear c.replaced-old.result c.replaced-old.ensures c.next-number.result
-          c.contra_side-side.result c.maker_order-order.result c.maker_order-order.ensures c.next-number.ensures;
+          c.other-side.result c.maker_order-order.result c.maker_order-order.ensures c.next-number.ensures;
     }
 
 pub invariant_of-self : goal.invariant_of-self
@@ -86,5 +94,5 @@ invariant_of-self g c =
     let s = a.self.now in
     let clear = c.in_ok-check_improve.ensures in record {
       day = in_day s a.pass.now.series a.time a.member a.price a.size a.replaces a.rows.now clear;
-      held = holds s a.pass.now.series a.time a.member a.price a.size a.replaces a.rows.now clear c.replaced-old.result c.replaced-old.ensures c.next-number.result c.contra_side-side.result c.maker_order-order.result c.maker_order-order.ensures (orders c.replace_order-count.new.table) c.replace_order-count.ensures.records;
+      held = holds s a.pass.now.series a.time a.member a.price a.size a.replaces a.rows.now clear c.replaced-old.result c.replaced-old.ensures c.next-number.result c.other-side.result c.maker_order-order.result c.maker_order-order.ensures (orders c.replace_order-count.new.table) c.replace_order-count.ensures.records;
     }
