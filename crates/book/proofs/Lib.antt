@@ -1,4 +1,5 @@
 pub mod Inserted
+pub mod Inserting
 pub mod Walks
 pub mod Sorting
 pub mod Stable

@@ -8,9 +8,9 @@ use Rattle.market.specs.declared.order.Order.{Order}
 abbrev pub balanced : Order → Bool
 balanced o = o.left.count + o.traded.count + o.gone.count == o.size.count && nat_le o.size.count 9999
 
--- a record that no order uses has no price
+-- a record that no order uses is blank: it has no number, no contracts and no price
 abbrev pub free_record : Order → Bool
-free_record o = price_of o.kind == 0
+free_record o = o.number == 0 && o.size.count == 0 && price_of o.kind == 0
 
 -- the numbers rise, above low and below top
 abbrev pub rises : ℕ → List Order → ℕ → Bool

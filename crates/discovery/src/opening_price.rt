@@ -28,5 +28,6 @@ pub fn supply(table: &Table, price: Cents) -> Contracts
 pub fn top(table: &Table, close: Close) -> Option<(u32, u32)>
     ensures { result ≡ openings.top (orders table.now) close.price.value }
 {
-    opening_price::top(table.live(), close.price())
+    let (price, quantity) = opening_price::top(table.live(), close.price())?;
+    Some((price, quantity))
 }

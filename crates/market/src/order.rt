@@ -116,12 +116,15 @@ impl Role {
 // The letter by which rows and journals name an account.
 impl fmt::Display for Account {
     ghost use Rattle.std.specs.Prelude.{Some, codes};
+    ghost use Rattle.std.specs.Fmt.{styled_text};
     ghost use Rattle.market.specs.declared.order.Account.TheVariants.{Customer, Linkage, MarketMaker};
 
     ghost output = { λ a. Some (elim a [ Customer ↦ codes "C" | Linkage ↦ codes "L" | MarketMaker ↦ codes "M" ]) };
 
+    ghost styled_output = { λ a style. Some (styled_text style (elim a [ Customer ↦ codes "C" | Linkage ↦ codes "L" | MarketMaker ↦ codes "M" ])) };
+
     fn fmt<W: fmt::Write>(&self, f: &mut fmt::Formatter<W>) -> fmt::Result {
-        f.write_str(match self {
+        f.pad(match self {
             Account::Customer => "C",
             Account::Linkage => "L",
             Account::MarketMaker => "M",

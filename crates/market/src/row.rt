@@ -66,12 +66,15 @@ impl Row {
 // The letter by which a row shows its kind.
 impl fmt::Display for RowKind {
     ghost use Rattle.std.specs.Prelude.{Some, codes};
+    ghost use Rattle.std.specs.Fmt.{styled_text};
     ghost use Rattle.market.specs.declared.row.RowKind.TheVariants.{Trade, Sent, Returned, Withdrawn};
 
     ghost output = { λ k. Some (elim k [ Trade ↦ codes "T" | Sent ↦ codes "S" | Returned ↦ codes "R" | Withdrawn ↦ codes "W" ]) };
 
+    ghost styled_output = { λ k style. Some (styled_text style (elim k [ Trade ↦ codes "T" | Sent ↦ codes "S" | Returned ↦ codes "R" | Withdrawn ↦ codes "W" ])) };
+
     fn fmt<W: fmt::Write>(&self, f: &mut fmt::Formatter<W>) -> fmt::Result {
-        f.write_str(match self {
+        f.pad(match self {
             RowKind::Trade => "T",
             RowKind::Sent => "S",
             RowKind::Returned => "R",

@@ -1,10 +1,10 @@
 -- Laws of the table's records.
-use Rattle.std.proofs.Common.{◌≡◌, ℕ, ◌+◌, ◌<◌, ◌≤◌, min, Bool, true, cond, not, ◌||◌, ltb, leb, List, [], ◌∷◌, ◌++◌, map, get_or, count_by, take, drop, refl, ap, subst, arith}
+use Rattle.std.proofs.Common.{◌≡◌, ℕ, ◌+◌, ◌<◌, ◌≤◌, min, Bool, true, cond, not, ◌&&◌, ◌||◌, eqb, ltb, leb, List, [], ◌∷◌, ◌++◌, map, get_or, count_by, take, drop, refl, ap, subst, arith}
 use Rattle.std.specs.List.{list_all, AllByRecursion}
 use Rattle.std.proofs.ByRecursion.{All-append, All-take, All-weaker, all_kept_by}
 use Rattle.std.proofs.lemmas.List.{take-append-drop}
 use Rattle.std.proofs.lemmas.List.Sums.{sum_by-append}
-use Rattle.std.proofs.lemmas.Bool.{and_from, ltb-true, le-leb, eq-eqb, eqb-true, cond_both}
+use Rattle.std.proofs.lemmas.Bool.{and_from, and_parts, ltb-true, le-leb, eq-eqb, eqb-true, cond_both}
 use Rattle.market.specs.Words.{standing, in_book, auctioned, limit_at, price_of}
 use Rattle.market.specs.declared.order.Order.{Order}
 use Rattle.market.specs.declared.order.OrderKind.{OrderKind}
@@ -33,7 +33,7 @@ pub table_priced : (t : Table) → AllByRecursion (λ o. priced o ≡ true) (ord
 table_priced t = All-take (λ (o : Order). priced o ≡ true) t.records.count t.records.records (pass_all priced t.records.records t.prices)
 
 free_priced : (o : Order) → free_record o ≡ true → priced o ≡ true
-free_priced o h = let e : price_of o.kind ≡ 0 = eqb-true (price_of o.kind) 0 h in le-leb _ _ (omega arith)
+free_priced o h = let e : price_of o.kind ≡ 0 = eqb-true (price_of o.kind) 0 (and_parts (eqb o.number 0 && eqb o.size.count 0) (eqb (price_of o.kind) 0) h).1 in le-leb _ _ (omega arith)
 
 -- where the live records are priced, all are: the others are free
 pub all_priced : (r : RecordTable) → AllByRecursion (λ o. priced o ≡ true) (records_of r) → list_all priced r.records ≡ true

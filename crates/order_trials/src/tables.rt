@@ -57,9 +57,15 @@ pub fn add(table: &mut Table, side: Side, kind: OrderKind, size: u32) -> bool {
     )))
 }
 
-// A T row.
+// A T row, written out: what is expected does not come from the code that is tested.
 pub fn trade(buyer: u16, seller: u16, price: u32, count: u32) -> Row {
-    Row::trade(Side::Buy, buyer, seller, cents(price), contracts(count))
+    Row {
+        kind: RowKind::Trade,
+        first: buyer,
+        second: seller,
+        price: cents(price),
+        contracts: contracts(count),
+    }
 }
 
 // Checks that the rows begin as expected, and that the next one is untouched.

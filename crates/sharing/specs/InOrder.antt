@@ -1,14 +1,29 @@
 -- Time with guarantee is lawful, and ignores a mark outside the list.
-use Rattle.std.specs.Prelude.{◌≡◌, ℕ, zero, suc, ◌+◌, ◌-◌, ◌<◌, ◌≤◌, min, List, [], ◌∷◌, length, set, Some, None, sum, ◌≢◌, slice_index, slice_index_or, slice_set, refl}
+use Rattle.std.specs.Prelude.{◌≡◌, ℕ, zero, suc, ◌+◌, ◌-◌, ◌<◌, ◌≤◌, min, Bool, true, false, cond, List, [], ◌∷◌, length, set, Some, None, Decides, sum, Option, MatchOption, ◌≢◌, slice_index, slice_index_or, slice_set, refl}
 use Rattle.std.proofs.Common.{sym, ap, subst, ◌∙◌}
 use Rattle.std.proofs.Math.Logic.{⊎_elim}
 use native.Mathlib.Omega.{arith}
 use Rattle.std.proofs.Math.ListN.{length-set}
 use Rattle.std.proofs.lemmas.List.{get_or-set_same, get_or-set_other, get_or_past, set_past}
 use Rattle.std.proofs.lemmas.List.Sums.{sum_by-cons, sum_by-set}
-use Rattle.std.proofs.lemmas.Bool.{cases_lt, cases_eq}
+use Rattle.std.proofs.lemmas.Bool.{cases_lt, cases_eq, cases_Bool, cond-true, cond-false, both_ways}
 use Rattle.sharing.specs.Sharing.{Shares, Lawful}
-use Rattle.sharing.specs.Time.{in_order, assured, time_with_guarantee}
+use Rattle.sharing.specs.Time.{in_order, others, assured, time_with_guarantee}
+
+pub length_others : (cs : List ℕ) (mark : Option ℕ) → length (others cs mark) ≡ length cs
+length_others cs None = refl
+length_others cs (Some m) = length-set cs m 0
+
+-- the claim at a place, by the test whether it is the marked one
+pub others_at :
+    (cs : List ℕ) (mark : Option ℕ) (i : ℕ) (r : Bool) → i < length cs → MatchOption mark (r ≡ false) (λ m. Decides r (m ≡ i)) →
+    slice_index (others cs mark) i ≡ cond r 0 (slice_index cs i)
+others_at cs None i r h no-mark = sym (cond-false r 0 (slice_index cs i) no-mark)
+others_at cs (Some m) i r h test =
+    ⊎_elim
+    (λ (yes' : r ≡ true). ap (λ k. slice_index (slice_set cs m 0) k) (sym (test.0 yes')) ∙ get_or-set_same cs m 0 0 (rw (test.0 yes') h) ∙ sym (cond-true r 0 (slice_index cs i) yes'))
+    (λ (no' : r ≡ false). get_or-set_other cs m i 0 0 (λ e. both_ways r no' (test.1 (sym e))) ∙ sym (cond-false r 0 (slice_index cs i) no'))
+    (cases_Bool r)
 
 pub length_in_order : (cs : List ℕ) (left : ℕ) → length (in_order cs left) ≡ length cs
 length_in_order [] left = refl

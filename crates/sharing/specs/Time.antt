@@ -6,6 +6,11 @@ abbrev pub in_order : List ℕ → ℕ → List ℕ
 in_order [] left = []
 in_order (c ∷ cs) left = min c left ∷ in_order cs (left - c)
 
+-- the claims without the marked one
+abbrev pub others : List ℕ → Option ℕ → List ℕ
+others claims None = claims
+others claims (Some m) = slice_set claims m 0
+
 -- what the marked claim gets first
 abbrev pub assured : List ℕ → ℕ → ℕ → ℕ → ℕ
 assured claims amount m guarantee = min (slice_index claims m) (min guarantee amount)

@@ -56,9 +56,9 @@ pub fn check_bounds(
     ensures { refused_by result ≡ first_hit (bounds_checks (counts claims.now) amount.count guarantee.count places) }
 {
     let fits = claims.len() <= MOST_CLAIMS
-        && are_small(claims)
+        && places == claims.len()
         && amount.count <= LARGEST_AMOUNT
         && guarantee.count <= LARGEST_CLAIM
-        && places == claims.len();
+        && are_small(claims);
     refuse_if(!fits, Refusal::OutOfBounds)
 }

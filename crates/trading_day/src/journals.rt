@@ -1,7 +1,6 @@
 // Days and what their journals must say.
 use crate::calls::{CLOSE, SERIES, cents, contracts};
 use market::close::Close;
-use market::order::Side;
 use market::refusal::Refusal;
 use market::row::{Row, RowKind};
 use series::day::{DayCall, JournalEntry, UNUSED_ROW};
@@ -46,12 +45,23 @@ pub fn check_day<R: SharingRule + Drop>(
     Ok(journal)
 }
 
+// A row, written out: what is expected does not come from the code that is tested.
+fn row(kind: RowKind, first: u16, second: u16, price: u32, count: u32) -> Row {
+    Row {
+        kind,
+        first,
+        second,
+        price: cents(price),
+        contracts: contracts(count),
+    }
+}
+
 pub fn departure(kind: RowKind, order: u16, price: u32, count: u32) -> Row {
-    Row::departure(kind, order, cents(price), contracts(count))
+    row(kind, order, 0, price, count)
 }
 
 pub fn trade(buyer: u16, seller: u16, price: u32, count: u32) -> Row {
-    Row::trade(Side::Buy, buyer, seller, cents(price), contracts(count))
+    row(RowKind::Trade, buyer, seller, price, count)
 }
 
 // The rows of the last call of a day, and the memory behind them.

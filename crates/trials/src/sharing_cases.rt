@@ -149,5 +149,7 @@ fn sums(rt: HostRuntime) -> Result<(), Fail> {
         12
     );
     assert_eq!(rt; sum_of(&most).count, 1_609_839);
+    let over = [Contracts { count: u32::MAX }, Contracts { count: 7 }];
+    assert_eq!(rt; sum_of(&over).count, u32::MAX);
     Ok(())
 }

@@ -35,8 +35,14 @@ impl Price {
         ensures { result.value ≡ grid.floor self.value }
     {
         let price = self.value;
+        // By each step as a constant: a remainder by a step that is only known then takes longer.
+        let over = if price < COARSE_FROM {
+            price % FINE_STEP
+        } else {
+            price % COARSE_STEP
+        };
         GridPrice {
-            value: price - price % step_from(price),
+            value: price - over,
         }
     }
 

@@ -1,8 +1,9 @@
-use Rattle.std.proofs.Common.{◌≡◌, ◌+◌, ◌-◌, ◌≤◌, eqb, map, length, take, drop, ap, ◌∙◌, arith}
+use Rattle.std.proofs.Common.{◌≡◌, ◌+◌, ◌-◌, ◌^◌, ◌<◌, ◌≤◌, eqb, map, length, take, drop, sum, ap, ◌∙◌, arith}
 use Rattle.std.proofs.lemmas.List.{length-map, length-take, length-drop, take_all}
 use Rattle.std.specs.List.{prefix_len}
 use Rattle.market.specs.Words.{standing}
 use Rattle.rules.specs.Allocation.{mark_among}
+use Rattle.sharing.specs.Asked.{counts}
 use Rattle.book.specs.Claims.{claimants}
 use Rattle.book.specs.Places.{at, TrueRank}
 use Rattle.book.specs.Ranking.{priority_at_place}
@@ -30,8 +31,10 @@ invariant_of-level g c =
       guarantee = a.guarantee;
     }
 
-pub sum_of-ahead-requires : goal.sum_of-ahead-requires
-sum_of-ahead-requires g c =
+-- what a level claims fits
+level_fits : (g : given.Over) (c : goal.After-struct_known-1 g) →
+    sum (counts (take (c.loop-start.start + c.level_len.result - c.loop-start.start) (drop c.loop-start.start c.args.all.now.claims.now))) < 2 ^ 32
+level_fits g c =
     let a = c.args.all.now in
     let from = c.loop-start.start in
     let n = from + c.level_len.result - from in
@@ -62,7 +65,7 @@ level_more g c =
     allocating_more rule (claimants a) t.amount.count t.marked t.guarantee.count c.requires.sorted c.requires.rising l.start to lev l.shares c.share.new.shares l.ahead c.sum_of-ahead.result.count l.invariant
     (omega (arith, c.share.auto.shares, length-take n (drop l.start l.shares), length-drop l.start l.shares, l.auto.shares, c.requires.even))
     (c.share.ensures ∙ (λ i. rule (claimed i) (c.saturating_sub.ensures i) (mark_among t.marked (same i)) t.guarantee.count))
-    (c.sum_of-ahead.ensures ∙ part_held os rs a.claims.now a.claimed l.start n)
+    (c.sum_of-ahead.ensures.exact (level_fits g c) ∙ part_held os rs a.claims.now a.claimed l.start n)
 
 pub overflow_add-ahead : goal.overflow_add-ahead
 overflow_add-ahead g c =

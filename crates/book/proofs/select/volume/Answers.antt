@@ -1,16 +1,29 @@
-use Rattle.std.proofs.Common.{rules, tests}
-use Rattle.std.proofs.lemmas.Iterator.{YieldsList-from_slice, YieldsList-from_map}
-use Rattle.std.proofs.lemmas.Iterator.Consumers.{YieldsList-at, YieldsList-from_filter, fits_by_from_yields_list}
+use Rattle.std.proofs.Common.{◌+◌, sum_by, filter, sym, ap, ◌∙◌, arith}
+use Rattle.std.proofs.lemmas.List.{take_all}
 use Rattle.market.specs.Words.{standing}
 use Rattle.book.specs.Filters.{passes}
-use Rattle.book.proofs.Walks.{kept_sum_fits}
+use Rattle.book.proofs.Walks.{kept_sum_yes, kept_sum_no, kept_sum_small}
 use Rattle.book.proofs.select.volume.Goals as goal
+use Rattle.book.proofs.select.volume.Goals.{then-passes, else-passes}
 
-pub sum-requires-clause-fits : goal.sum-requires-clause-fits
-sum-requires-clause-fits c =
+pub overflow_add-sum : goal.overflow_add-sum
+overflow_add-sum c =
+    let l = c.loop-order in
+    let os = c.args.orders.now in
     let p = passes c.args.filter in
-    fits_by_from_yields_list standing _ c.map.result _
-    (YieldsList-from_map _ standing
-    (YieldsList-at c.map.ensures.source (YieldsList-from_filter _ p (YieldsList-from_slice c.args.orders.now cc) c.filter.ensures.closure (λ x r q k. search (rules, tests))))
-    c.map.ensures.closure (λ x r q k. search (rules, tests)))
-    (kept_sum_fits p c.args.orders.now c.requires.few c.requires.small)
+    let a = l.invariant in
+    omega (arith, kept_sum_yes p standing os l.order-index c.loop-order-test.true (sym c.if-passes.ensures), kept_sum_small p os (l.order-index + 1) c.requires.few c.requires.small)
+
+pub loop-order-preserved : goal.loop-order-preserved
+loop-order-preserved c =
+    let l = c.loop-order in
+    let os = c.args.orders.now in
+    let p = passes c.args.filter in
+    let a = l.invariant in
+    elim c.if-passes.branch [
+      | then-passes w ↦ omega (arith, w.sum-is, kept_sum_yes p standing os l.order-index c.loop-order-test.true (sym w.if-passes.ensures))
+      | else-passes w ↦ omega (arith, w.sum-is, kept_sum_no p standing os l.order-index c.loop-order-test.true (sym w.if-passes.ensures))
+    ]
+
+pub returns : goal.returns
+returns c = c.loop-order.invariant ∙ ap (λ os. sum_by standing (filter (passes c.args.filter) os)) (take_all c.loop-order.order-index c.args.orders.now c.loop-order-test.false)
